@@ -18,12 +18,13 @@ pub struct Stop {
 }
 
 // How errors that say that memory ran out print: the own ones, and those of the libraries below.
-const NO_MEMORY: [&str; 5] = [
+const NO_MEMORY: [&str; 6] = [
     "NoMemory",
     "OutOfMemory",
     "AllocError",
     "AllocFailed { .. }",
     "Error(out of memory)",
+    "Kind(OutOfMemory)",
 ];
 
 impl<E: Debug + Drop> From<E> for Stop {

@@ -9,9 +9,7 @@ use predicates::reflection::Case;
 use predicates::{PredicateChange, Total};
 use predicates_dynamic::{Check, Listed, Members, NoContext, View};
 use predicates_sweep::Memory::{Never, Taken};
-use predicates_sweep::{
-    Answer, Call, Rendered, Row, Without, leaf, over, refusing, sweep, sweep_calls,
-};
+use predicates_sweep::{Answer, Call, Rendered, Row, over, refusing, sweep, sweep_calls};
 use std::alloc::{AllocError, Global};
 use std::fmt;
 use std::process::Abort;
@@ -56,11 +54,9 @@ impl Rendered for Made {
     }
 }
 
-// A check of one part.
+// A check over members.
 #[derive(Clone, Copy)]
 enum Over {
-    Not,
-    Name,
     Each,
     Any,
     AtLeast,
@@ -77,8 +73,6 @@ impl Call for Over {
 
     fn call(&self, alloc: Global, part: Numbers) -> Result<Made, AllocError> {
         let check = match self {
-            Over::Not => part.not(alloc)?,
-            Over::Name => part.name(alloc, "large")?,
             Over::Each => part.of_each(alloc, Only)?,
             Over::Any => part.of_any(alloc, Only)?,
             Over::AtLeast => part.of_at_least(alloc, 2, Only)?,
@@ -87,40 +81,7 @@ impl Call for Over {
     }
 }
 
-// A check of two parts.
-#[derive(Clone, Copy)]
-enum Joining {
-    And,
-    Or,
-    Xor,
-}
-
-impl Call for Joining {
-    type Operand = (Numbers, Numbers);
-
-    type Answer = Made;
-
-    fn operand(&self, _alloc: Global) -> Result<(Numbers, Numbers), AllocError> {
-        Ok((
-            Check::leaf_beside_members(ge(5)),
-            Check::leaf_beside_members(le(9)),
-        ))
-    }
-
-    fn call(&self, alloc: Global, parts: (Numbers, Numbers)) -> Result<Made, AllocError> {
-        let (left, right) = parts;
-        let check = match self {
-            Joining::And => left.and(alloc, right)?,
-            Joining::Or => left.or(alloc, right)?,
-            Joining::Xor => left.xor(alloc, right)?,
-        };
-        Ok(Made { check })
-    }
-}
-
-const OVER: [(&str, Over, &str); 5] = [
-    ("Check::not", Over::Not, "(! var >= 5)"),
-    ("Check::name", Over::Name, "large"),
+const OVER: [(&str, Over, &str); 3] = [
     ("Check::of_each", Over::Each, "each only (var >= 5)"),
     ("Check::of_any", Over::Any, "any only (var >= 5)"),
     (
@@ -130,65 +91,18 @@ const OVER: [(&str, Over, &str); 5] = [
     ),
 ];
 
-const JOINING: [(&str, Joining, &str); 3] = [
-    ("Check::and", Joining::And, "(var >= 5 && var <= 9)"),
-    ("Check::or", Joining::Or, "(var >= 5 || var <= 9)"),
-    ("Check::xor", Joining::Xor, "(var >= 5 ^ var <= 9)"),
-];
-
 #[test]
-fn checks_over_parts(rt: HostRuntime) {
+fn checks_over_members(rt: HostRuntime) {
     for (name, call, expected) in OVER {
         sweep(&rt, name, &call, expected, Taken).expect(&rt, "memory");
     }
-    for (name, call, expected) in JOINING {
-        sweep(&rt, name, &call, expected, Taken).expect(&rt, "memory");
-    }
-}
-
-// What was made without memory holds of the item. A check that is `Total` may be asked about it.
-fn is_made<R: Abort + AllocGlobal + Print, P: Total<u32> + Drop>(
-    rt: &R,
-    begun: Without<'_>,
-    check: P,
-    item: u32,
-) {
-    holds(rt, begun, check, &item)
-}
-
-// Two parts of a row, which hold of 7.
-fn two_parts(rt: &impl Abort, alloc: Global) -> Vec<Numbers> {
-    let (low, high) = (
-        Check::leaf_beside_members(ge(5)),
-        Check::leaf_beside_members(le(9)),
-    );
-    vec![in alloc; low, high].expect(rt, "memory")
 }
 
 #[test]
 fn checks_without_memory(rt: HostRuntime) {
-    let alloc = rt.alloc();
-    is_made(
-        &rt,
-        refusing(alloc, "Check::leaf"),
-        Check::leaf(ge(5u32)),
-        7,
-    );
+    let begun = refusing(rt.alloc(), "Check::leaf_beside_members");
     let leaf: Numbers = Check::leaf_beside_members(ge(5));
-    is_made(&rt, refusing(alloc, "Check::leaf_beside_members"), leaf, 7);
-    let parts = two_parts(&rt, alloc);
-    is_made(&rt, refusing(alloc, "Check::all"), Check::all(parts), 7);
-    let parts = two_parts(&rt, alloc);
-    is_made(&rt, refusing(alloc, "Check::any"), Check::any(parts), 7);
-    let parts = two_parts(&rt, alloc);
-    is_made(
-        &rt,
-        refusing(alloc, "Check::at_least"),
-        Check::at_least(2, parts),
-        7,
-    );
-    let parts = two_parts(&rt, alloc);
-    is_made(&rt, refusing(alloc, "Check::odd"), Check::odd(parts), 3)
+    holds(&rt, begun, leaf, &7)
 }
 
 // A row of each form over parts, which holds of 7.
@@ -283,8 +197,6 @@ fn sweep_check<R: Abort + AllocGlobal + Print, P: Total<u32> + PredicateChange<u
 
 #[test]
 fn calls_of_checks(rt: HostRuntime) {
-    let row = leaf("a Check of a leaf", true, "var >= 5 = true\n  - var: 7\n");
-    sweep_check(&rt, Check::leaf(ge(5u32)), 7, row);
     let joins = row_of_joins(&rt, rt.alloc());
     sweep_check(
         &rt,

@@ -41,8 +41,6 @@ impl Call for Styling {
     }
 }
 
-const PLAIN: &str = "a\n = false\n  - var: 7\n8\n  left: b = true\n  right: c = false\n";
-
 const CUT: &str = "\
 a\\n = \u{1b}[31mfalse\u{1b}[0m
   - var (first 2 of 3 characters): 7\\n
@@ -52,7 +50,6 @@ a\\n = \u{1b}[31mfalse\u{1b}[0m
 
 #[test]
 fn styles(rt: HostRuntime) {
-    let plain = Style::new();
     let cut = Style {
         children: Some(1),
         characters: Some(2),
@@ -61,7 +58,6 @@ fn styles(rt: HostRuntime) {
     };
     for (name, style, appends, expected) in [
         ("render_styled", cut, false, CUT),
-        ("render_styled without a style", plain, false, PLAIN),
         ("render_styled_onto", cut, true, CUT),
     ] {
         sweep(&rt, name, &Styling { style, appends }, expected, Taken).expect(&rt, "memory");

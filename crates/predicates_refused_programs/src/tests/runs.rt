@@ -1,11 +1,9 @@
-//! Blocks, and runs over lines of an input.
+//! Runs over lines of an input.
 use super::ended_run::EndedRun;
 use super::words::check_of;
-use predicates::boolean::PredicateBooleanExt;
-use predicates::ord::{ge, le};
-use predicates_explain::{TextCheck, explain_one, explain_total, run_between, run_text};
+use predicates_explain::{TextCheck, run_between, run_text};
 use predicates_sweep::Memory::{self, GoesOn, Never, Perhaps, Taken};
-use predicates_sweep::{Answer, Call, sweep};
+use predicates_sweep::{Call, sweep};
 use std::alloc::{AllocError, Global};
 
 /// What is written for 7, 11 and 4 between 5 and 10.
@@ -35,53 +33,6 @@ pub const SEVEN: &str = "\
   right: var <= 10 = true
     - var: 7
 ";
-
-// The block of 7 between 5 and 10; over predicates of any kind, or such as have a formula on each
-// item.
-#[derive(Drop)]
-struct Explaining {
-    total: bool,
-}
-
-impl Call for Explaining {
-    type Operand = ();
-
-    type Answer = Answer;
-
-    fn operand(&self, _alloc: Global) -> Result<(), AllocError> {
-        Ok(())
-    }
-
-    fn call(&self, alloc: Global, _operand: ()) -> Result<Answer, AllocError> {
-        let between = ge(5i64).and(le(10));
-        let block = if self.total {
-            explain_total(alloc, &between, "7", &7)?
-        } else {
-            explain_one(alloc, &between, "7", &7)?
-        };
-        Ok(Answer::Text(block))
-    }
-}
-
-#[test]
-fn blocks(rt: HostRuntime) {
-    sweep(
-        &rt,
-        "explain_one",
-        &Explaining { total: false },
-        SEVEN,
-        Taken,
-    )
-    .expect(&rt, "memory");
-    sweep(
-        &rt,
-        "explain_total",
-        &Explaining { total: true },
-        SEVEN,
-        Taken,
-    )
-    .expect(&rt, "memory")
-}
 
 // A run over numbers between 5 and 10, or over texts by the check.
 #[derive(Drop)]

@@ -1,7 +1,7 @@
 //! Words of a check of texts.
-use predicates_explain::{TextCheck, Word, WordFault, WordsError, apply_word, number, read_word};
+use predicates_explain::{TextCheck, Word, WordFault, WordsError, apply_word, read_word};
 use predicates_sweep::Memory::{GoesOn, Never, Taken};
-use predicates_sweep::{Answer, Call, Rendered, refusing, sweep};
+use predicates_sweep::{Answer, Call, Rendered, sweep};
 use std::alloc::{AllocError, Global};
 use std::process::Abort;
 
@@ -234,11 +234,4 @@ fn checks_from_words(rt: HostRuntime) {
     let words = ["empty", "match=["].as_slice();
     let expected = "word 2, \"match=[\": regular expression rejected";
     sweep(&rt, expected, &FromWords { words }, expected, GoesOn).expect(&rt, "memory")
-}
-
-#[test]
-fn numbers(rt: HostRuntime) {
-    let begun = refusing(rt.alloc(), "number");
-    let right = number(b"-7") == Some(-7) && number(b"7 ") == None;
-    begun.end(&rt, right).expect(&rt, "memory")
 }
