@@ -829,11 +829,11 @@ fn refusal(rt: &impl Abort, alloc: Global, first: &[&[u8]], second: &[&[u8]]) ->
 }
 
 // Whether the program ends so where these flags stand before the rules.
-fn pair_ends(
+fn pair_ends<'w>(
     rt: &impl Abort,
     alloc: Global,
-    first: &[&[u8]],
-    second: &[&[u8]],
+    first: &'w [&'w [u8]],
+    second: &'w [&'w [u8]],
     clash: bool,
 ) -> bool {
     let mut words: Vec<&[u8]> = Vec::new(alloc);

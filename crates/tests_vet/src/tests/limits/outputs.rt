@@ -16,8 +16,14 @@ const FILES: [(&str, &[u8]); 3] = [
 
 type Words = &'static [&'static [u8]];
 
+// Words, and what stands on standard input.
+type Row = (Words, &'static [u8]);
+
+// The same with the status and what is told.
+type Unread = (Words, &'static [u8], u8, &'static [u8]);
+
 // Words and standard input of runs that write before the end.
-const BEFORE_THE_END: [(Words, &[u8]); 6] = [
+const BEFORE_THE_END: [Row; 6] = [
     (&[b"vet", b"rules"], b"2"),
     (&[b"vet", b"--flush", b"rules"], b"2"),
     (&[b"vet", b"--json", b"rules"], b"1"),
@@ -28,7 +34,7 @@ const BEFORE_THE_END: [(Words, &[u8]); 6] = [
 ];
 
 // Those that write no more than a document, or the help.
-const AT_THE_END: [(Words, &[u8]); 3] = [
+const AT_THE_END: [Row; 3] = [
     (&[b"vet", b"--format", b"junit", b"rules"], b"1"),
     (&[b"vet", b"--format", b"junit", b"rules"], b"2"),
     (&[b"vet", b"--help"], b""),
@@ -36,14 +42,8 @@ const AT_THE_END: [(Words, &[u8]); 3] = [
 
 // Whether the program has this status and tells this and no more, where each write of the output
 // fails by the kind.
-fn ends(
-    alloc: Global,
-    words: Words,
-    input: &[u8],
-    kind: ErrorKind,
-    status: u8,
-    messages: &[u8],
-) -> bool {
+fn ends(alloc: Global, row: Row, kind: ErrorKind, status: u8, messages: &[u8]) -> bool {
+    let (words, input) = row;
     let process = OddProcess {
         held: Process::new(alloc, words, &FILES, input),
         fault: Some(kind),
@@ -56,16 +56,11 @@ fn ends(
 
 // Whether each tells this of the fault in place of the totals; its status is not that of the
 // records.
-fn all_fail(
-    rt: &impl Abort,
-    alloc: Global,
-    rows: &[(Words, &[u8])],
-    kind: ErrorKind,
-    messages: &[u8],
-) {
-    for (words, input) in rows {
+fn all_fail(rt: &impl Abort, alloc: Global, rows: &[Row], kind: ErrorKind, messages: &[u8]) {
+    for row in rows {
+        let (words, input) = *row;
         assert!(rt;
-            ends(alloc, *words, input, kind, 2, messages),
+            ends(alloc, *row, kind, 2, messages),
             "{words:?} on {input:?}"
         );
     }
@@ -108,12 +103,20 @@ fn outputs_out_of_memory(rt: HostRuntime) {
 fn runs_that_write_nothing(rt: HostRuntime) {
     let words: Words = &[b"vet", b"rules"];
     let messages = b"1 record, 0 failed\n";
-    assert!(rt; ends(rt.alloc(), words, b"1", ErrorKind::StorageFull, 0, messages));
+    assert!(rt;
+        ends(
+            rt.alloc(),
+            (words, b"1"),
+            ErrorKind::StorageFull,
+            0,
+            messages
+        )
+    );
 }
 
 // Words, standard input, and the status and what is told, where nothing reads the document: no
 // totals, and the status is that of the records.
-const UNREAD: [(Words, &[u8], u8, &[u8]); 4] = [
+const UNREAD: [Unread; 4] = [
     (&[b"vet", b"--format", b"junit", b"rules"], b"1", 0, b""),
     (&[b"vet", b"--format", b"junit", b"rules"], b"2\n1", 1, b""),
     (
@@ -130,7 +133,8 @@ const UNREAD: [(Words, &[u8], u8, &[u8]); 4] = [
     ),
 ];
 
-fn is_unread(alloc: Global, words: Words, input: &[u8], status: u8, messages: &[u8]) -> bool {
+fn is_unread(alloc: Global, row: Unread) -> bool {
+    let (words, input, status, messages) = row;
     let mut process = Process::new(alloc, words, &FILES, input);
     process.closed = Closed::Output;
     let (found, _, error) = told(process);
@@ -139,9 +143,8 @@ fn is_unread(alloc: Global, words: Words, input: &[u8], status: u8, messages: &[
 
 #[test]
 fn documents_that_nothing_reads(rt: HostRuntime) {
-    for (words, input, status, messages) in UNREAD {
-        let right = is_unread(rt.alloc(), words, input, status, messages);
-        assert!(rt; right, "{words:?} on {input:?}");
+    for row in UNREAD {
+        assert!(rt; is_unread(rt.alloc(), row), "{:?} on {:?}", row.0, row.1);
     }
 }
 
@@ -187,9 +190,9 @@ const WITHOUT_SHARE: &[u8] = b"\r2 lines, 10 a second\x1b[K\r2 lines, 5 a second
     \r4 lines, 6 a second\x1b[K\r4 lines, 5 a second\x1b[K\r4 lines, 4 a second\x1b[K\
     \r\x1b[K4 records, 2 failed\n";
 
-fn shows_no_share(alloc: Global, folder: &str) -> bool {
-    let words: [&[u8]; 5] = [b"vet", b"--progress", b"rules", b"one", b"two"];
-    let mut held = Process::new(alloc, &words, &FILES, b"");
+fn shows_no_share(alloc: Global, folder: &'static str) -> bool {
+    let words: Words = &[b"vet", b"--progress", b"rules", b"one", b"two"];
+    let mut held = Process::new(alloc, words, &FILES, b"");
     held.tick = Some(200);
     let process = OddProcess {
         held,
