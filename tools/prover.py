@@ -191,8 +191,9 @@ def library(name):
 
 def make_libraries(crates):
     """Has `rt lib` make these crates and the libraries below that are missing, or that a check of this checkout made of an
-    older text."""
-    for name in dict.fromkeys(it for crate in crates for it in [*crate.below, crate.name]):
+    older text. A program is no library, and nothing stands on it."""
+    names = dict.fromkeys(it for crate in crates for it in [*crate.below, crate.name])
+    for name in (it for it in names if (TOP / 'crates' / it / 'src/lib.rt').is_file()):
         if not library(name).is_dir() or (library(name).parent / 'stamp').is_file():
             ran = subprocess.run(['rt', 'lib'], cwd=TOP / 'crates' / name, stdin=subprocess.DEVNULL, stdout=subprocess.PIPE,
                                  stderr=subprocess.STDOUT, text=True, errors='replace')
