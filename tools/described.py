@@ -38,7 +38,7 @@ def options_of(told):
 
 def tokens():
     """The words of a check of texts, each with whether a text follows and what it says."""
-    text = (TOP / 'crates/predicates_words/src/word.rt').read_text(encoding='utf-8')
+    text = (TOP / 'crates/explain_words/src/word.rt').read_text(encoding='utf-8')
     return [(name, bool(equals), said) for name, equals, said in TOKEN.findall(text)]
 
 

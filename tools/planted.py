@@ -15,7 +15,7 @@ from wrong import Edit, mark_twins
 WITHIN = 'src/within.rt'
 TAKEN = '        if take_part(input, line, most - line.len())? {'
 FRONT = '    if !take_front(input, line, limit)? {'
-# What is planted in predicates_lines: a name, what is to be said of it, the function that it is by, and its pairs.
+# What is planted in streams: a name, what is to be said of it, the function that it is by, and its pairs.
 PLANTED = [
     ('two_bodies', 'refused', '', [
         ('src/write.rt', '        .write_all(bytes)', '        .write_all(&bytes[..0])'),
@@ -122,7 +122,7 @@ def test_texts(crate, edits, run, room):
 
 def self_test(edits_tool):
     """Tries the planted edits, and plants lines; each has to come to what is said of it."""
-    crate = Crate(TOP / 'crates/predicates_lines', kit())
+    crate = Crate(TOP / 'crates/streams', kit())
     make_libraries([crate])
     with tempfile.TemporaryDirectory() as room:
         edits, run = planted(crate, room), edits_tool.Run()

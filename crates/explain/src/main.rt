@@ -1,7 +1,7 @@
 //! Explains, for each line of standard input, whether it passes the check that the words name.
 #![tactic(auto)]
 
-use predicates_explain::run_program;
+use explain_run::run_program;
 use std::process::ExitCode;
 
 fn main(rt: HostRuntime) -> ExitCode {

@@ -58,7 +58,6 @@ pub mod semantics;
 
 pub use boxed::{BoxPredicate, TextPredicate};
 pub use predicates_boolean::{boolean, rules, threshold};
-pub use predicates_check as check;
 pub use predicates_core::{
     Content, Predicate, PredicateChange, ReadsContent, Total, as_static_str, custom,
     default_find_case, name, node, reflection, static_text,
@@ -66,4 +65,5 @@ pub use predicates_core::{
 pub use predicates_item::{constant, function, iter, ord};
 pub use predicates_part as part;
 pub use predicates_path as path;
+pub use predicates_require as check;
 pub use predicates_text as str;

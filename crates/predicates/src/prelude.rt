@@ -10,16 +10,16 @@
 
 pub use crate::{BoxPredicate, laws};
 pub use predicates_boolean::boolean::PredicateBooleanExt;
-pub use predicates_check::{
-    Unmet, add_failure, check_all, expect, failures, require, require_all, require_as,
-    required_change, sift,
-};
 pub use predicates_core::name::PredicateNameExt;
 pub use predicates_core::reflection::render;
 pub use predicates_core::static_text::StaticText;
 pub use predicates_core::{Predicate, PredicateChange};
 pub use predicates_part::PredicatePartExt;
 pub use predicates_path::{PredicateFileContentExt, Snapshot};
+pub use predicates_require::{
+    Unmet, add_failure, check_all, expect, failures, require, require_all, require_as,
+    require_styled, required_change, sift,
+};
 pub use predicates_text::PredicateStrExt;
 
 /// The functions that make predicates.

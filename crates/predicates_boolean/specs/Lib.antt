@@ -1,3 +1,4 @@
 pub mod Join
 pub mod Not
+pub mod Limit
 pub mod Rules

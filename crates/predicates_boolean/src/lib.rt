@@ -10,6 +10,7 @@
 #![tactic(auto)]
 
 pub mod boolean;
+mod limit;
 pub mod rules;
 pub mod semantics;
 pub mod threshold;

@@ -13,12 +13,13 @@ ghost use Rattle.std.specs.Fmt.{DisplaysOnOk};
 ghost use Rattle.std.specs.List.{AllByRecursion};
 ghost use Rattle.predicates_core.specs.Parts.{part_of_each};
 ghost use Rattle.predicates_core.specs.Several.{further_texts, listed_text};
-ghost use Rattle.predicates_core.specs.Thresholds.{IsOfThreshold, threshold_formula};
+ghost use Rattle.predicates_core.specs.Thresholds.{IsOfThreshold, counted_text, threshold_formula};
 ghost use Rattle.predicates_core.proofs.Several.{each_holds, each_weaker};
 ghost use Rattle.predicates_core.proofs.ThresholdCases.{threshold_text_fits, one_by_threshold};
 ghost use Rattle.predicates_core.proofs.ThresholdCases.{has_threshold};
 ghost use Rattle.predicates_boolean.specs.Rules.{least_of_rules, quantifier_of, rules_of, rules_text};
 
+use crate::limit::Threshold;
 use predicates_core::custom::{
     AtLeastOne, Counting, Every, HowMany, Quantifier, each_child, parts_case, parts_change,
     parts_explained, parts_hold,
@@ -132,6 +133,21 @@ fn write_listed<P: fmt::Display, W: fmt::Write>(
     f.write_str(")")
 }
 
+// Writes the number and the rules behind the word.
+fn write_counted<P: fmt::Display, W: fmt::Write>(
+    f: &mut fmt::Formatter<W>,
+    word: &'static str,
+    number: usize,
+    rules: &[P],
+) -> fmt::Result
+    ensures { DisplaysOnOk W.write_str_gives f.old result
+        (counted_text word.entry.now number (map P.output rules.now)) f.new }
+{
+    write!(f, "{word}({number}")?;
+    write_further(f, rules)?;
+    f.write_str(")")
+}
+
 impl<Q: Quantifier, P: fmt::Display> fmt::Display for RulesPredicate<Q, P> {
     ghost output = { λ p. rules_text (Q.how_many p.quantifier) (map P.output (rules_of p)) };
 
@@ -140,12 +156,17 @@ impl<Q: Quantifier, P: fmt::Display> fmt::Display for RulesPredicate<Q, P> {
         match self.quantifier.how_many() {
             HowMany::Every => write_listed(f, "all_of", rules),
             HowMany::AtLeastOne => write_listed(f, "any_of", rules),
-            HowMany::AtLeast(least) => {
-                write!(f, "at_least({least}")?;
-                write_further(f, rules)?;
-                f.write_str(")")
-            }
+            HowMany::AtLeast(least) => write_counted(f, "at_least", least, rules),
         }
+    }
+}
+
+impl<Q: Quantifier, P: fmt::Display> Threshold for RulesPredicate<Q, P> {
+    ghost most_text = { λ p most. counted_text
+        (codes "at_most") most (map P.output (rules_of p)) };
+
+    fn fmt_at_most<W: fmt::Write>(&self, most: usize, f: &mut fmt::Formatter<W>) -> fmt::Result {
+        write_counted(f, "at_most", most, self.rules.as_slice())
     }
 }
 

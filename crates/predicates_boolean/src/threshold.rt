@@ -7,10 +7,11 @@
 ghost use Rattle.std.specs.Prelude.{◌≡◌, IfOk};
 ghost use Rattle.std.specs.List.{AllZip};
 ghost use Rattle.predicates_boolean.specs.Join.{left_of, right_of};
-ghost use Rattle.predicates_boolean.specs.Not.{inner_of};
+ghost use Rattle.predicates_boolean.specs.Limit.{limit_of, threshold_of};
 ghost use Rattle.predicates_boolean.specs.Rules.{needed_of, one_more, rules_of};
 
-use crate::boolean::{AndPredicate, NotPredicate};
+use crate::boolean::AndPredicate;
+pub use crate::limit::{LimitPredicate, Threshold};
 use crate::rules::RulesPredicate;
 use predicates_core::Predicate;
 use predicates_core::custom::AtLeast;
@@ -40,7 +41,7 @@ pub fn at_least<P>(least: usize, rules: Vec<P>) -> AtLeastPredicate<P>
 }
 
 /// At most so many of the rules hold. Made by `at_most`.
-pub type AtMostPredicate<P, Item> = NotPredicate<AtLeastPredicate<P>, Item>;
+pub type AtMostPredicate<P, Item> = LimitPredicate<AtLeastPredicate<P>, Item>;
 
 /// So many of the rules hold, and no more. Made by `exactly`.
 pub type ExactlyPredicate<P, Item> = AndPredicate<
@@ -49,8 +50,8 @@ pub type ExactlyPredicate<P, Item> = AndPredicate<
     Item,
 >;
 
-/// Holds where at most so many of the rules do: it is not that one more of them hold, and prints
-/// `(! at_least(3, ..))` for two. Making it takes no memory.
+/// Holds where at most so many of the rules do: it is not that one more of them hold, which its case
+/// shows. It prints `at_most(2, ..)`. Making it takes no memory.
 ///
 /// ```
 /// let grades = vec![in alloc; predicate::ge(5), predicate::le(10), predicate::lt(3)]?;
@@ -59,10 +60,11 @@ pub type ExactlyPredicate<P, Item> = AndPredicate<
 /// assert!(rt; !one_at_most.eval(alloc, &7)?);
 /// ```
 pub fn at_most<P: Predicate<Item>, Item>(most: usize, rules: Vec<P>) -> AtMostPredicate<P, Item>
-    ensures most { needed_of (inner_of result) ≡ one_more most }
-    ensures rules { rules_of (inner_of result) ≡ rules.items }
+    ensures limit { limit_of result ≡ most }
+    ensures most { needed_of (threshold_of result) ≡ one_more most }
+    ensures rules { rules_of (threshold_of result) ≡ rules.items }
 {
-    NotPredicate::new(at_least(one_more(most), rules))
+    LimitPredicate::new(most, at_least(one_more(most), rules))
 }
 
 /// Holds where so many of the rules do, and no more: `at_least` of the number, and `at_most` of it
@@ -81,9 +83,11 @@ pub fn exactly<P: Predicate<Item> + Clone, Item>(
 ) -> Result<ExactlyPredicate<P, Item>, AllocError>
     ensures least { IfOk result (λ both. needed_of (left_of both) ≡ number) }
     ensures rules { IfOk result (λ both. rules_of (left_of both) ≡ rules.items) }
-    ensures most { IfOk result (λ both. needed_of (inner_of (right_of both)) ≡ one_more number) }
+    ensures limit { IfOk result (λ both. limit_of (right_of both) ≡ number) }
+    ensures most { IfOk result (λ both.
+        needed_of (threshold_of (right_of both)) ≡ one_more number) }
     ensures copied { IfOk result (λ both.
-        AllZip P.is_clone rules.items (rules_of (inner_of (right_of both)))) }
+        AllZip P.is_clone rules.items (rules_of (threshold_of (right_of both)))) }
 {
     let copied = rules.clone()?;
     Ok(AndPredicate::new(at_least(number, rules), at_most(number, copied)))

@@ -25,7 +25,7 @@ ghost use Rattle.predicates_part.specs.Part.{owned, borrowed};
 ghost use Rattle.predicates_part.specs.Part.{inner_of, function_of, name_of};
 ghost use Rattle.predicates_part.specs.Length as Length;
 ghost use Rattle.predicates_boolean.specs.Join.{left_of, right_of};
-ghost use Rattle.predicates_boolean.specs.Not as Not;
+ghost use Rattle.predicates_boolean.specs.Limit.{limit_of, threshold_of};
 ghost use Rattle.predicates_boolean.specs.Rules.{one_more};
 ghost use Rattle.predicates_part.specs.Members as Members;
 ghost use Rattle.predicates_part.specs.Members.{applied_text};
@@ -43,8 +43,8 @@ pub use members::{
     MembersExactlyPredicate, MembersPredicate,
 };
 pub use part::{ByField, ByOption, ByReference, ByValue, Field, FieldPredicate, PartPredicate};
-use predicates_boolean::boolean::{AndPredicate, NotPredicate};
-use predicates_boolean::threshold::one_more;
+use predicates_boolean::boolean::AndPredicate;
+use predicates_boolean::threshold::{LimitPredicate, one_more};
 use predicates_core::Predicate;
 use predicates_core::as_static_str::AsStaticStr;
 use predicates_core::custom::{AtLeast, AtLeastOne, Every};
@@ -289,8 +289,8 @@ pub trait PredicatePartExt<U>: Predicate<U> {
             (Self.formula self) v.items f };
 
     /// The predicate of a list that holds where this one holds of at most so many members: it is
-    /// not that one more of them hold, and prints `(! at_least(3, ..))` for two. It takes no memory
-    /// of its own.
+    /// not that one more of them hold, which its case shows. It prints `at_most(2, ..)`, and takes
+    /// no memory of its own.
     ///
     /// ```
     /// let one_child = predicate::lt(18).of_at_most(1);
@@ -300,8 +300,9 @@ pub trait PredicatePartExt<U>: Predicate<U> {
     fn of_at_most(self, most: usize) -> MembersAtMostPredicate<Self, U>
     where
         Self: Sized,
-        ensures most { Members.needed_of (Not.inner_of result) ≡ one_more most }
-        ensures inner { Members.inner_of (Not.inner_of result) ≡ self };
+        ensures limit { limit_of result ≡ most }
+        ensures most { Members.needed_of (threshold_of result) ≡ one_more most }
+        ensures inner { Members.inner_of (threshold_of result) ≡ self };
 
     /// The predicate of a list that holds where this one holds of so many members, and no more:
     /// `of_at_least` of the number, and `of_at_most` of it by a copy of this one. So each member is
@@ -318,10 +319,11 @@ pub trait PredicatePartExt<U>: Predicate<U> {
         Self: Sized + Clone,
         ensures least { IfOk result (λ both. Members.needed_of (left_of both) ≡ number) }
         ensures inner { IfOk result (λ both. Members.inner_of (left_of both) ≡ self) }
+        ensures limit { IfOk result (λ both. limit_of (right_of both) ≡ number) }
         ensures most { IfOk result (λ both.
-            Members.needed_of (Not.inner_of (right_of both)) ≡ one_more number) }
+            Members.needed_of (threshold_of (right_of both)) ≡ one_more number) }
         ensures copied { IfOk result (λ both.
-            Self.is_clone self (Members.inner_of (Not.inner_of (right_of both)))) };
+            Self.is_clone self (Members.inner_of (threshold_of (right_of both)))) };
 
     /// The predicate of a list or a text that holds where this one, a predicate of `usize`, holds
     /// of its length: the number of members, or of bytes. It prints `len`, and takes no memory of
@@ -399,7 +401,7 @@ impl<P: Predicate<U>, U> PredicatePartExt<U> for P {
     }
 
     fn of_at_most(self, most: usize) -> MembersAtMostPredicate<Self, U> {
-        NotPredicate::new(self.of_at_least(one_more(most)))
+        LimitPredicate::new(most, self.of_at_least(one_more(most)))
     }
 
     fn of_exactly(self, number: usize) -> Result<MembersExactlyPredicate<Self, U>, AllocError>

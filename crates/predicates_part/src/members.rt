@@ -4,19 +4,20 @@
 //! let adults = predicate::ge(18).of_each();
 //! let two_adults = predicate::ge(18).of_at_least(2);
 //! ```
-ghost use Rattle.std.specs.Prelude.{◌≡◌, ◌↔◌, [], codes, length, Vec};
+ghost use Rattle.std.specs.Prelude.{◌≡◌, ◌↔◌, [], ◌∷◌, codes, length, Vec};
 ghost use Rattle.std.specs.Global.{Global};
 ghost use Rattle.std.specs.List.{AllByRecursion};
 ghost use Rattle.predicates_core.specs.Formula.{Formula};
 ghost use Rattle.predicates_core.specs.HowMany.{least_of};
 ghost use Rattle.predicates_core.specs.Parts.{part};
-ghost use Rattle.predicates_core.specs.Thresholds.{IsOfThreshold, threshold_formula};
+ghost use Rattle.predicates_core.specs.Thresholds.{IsOfThreshold, counted_text, threshold_formula};
 ghost use Rattle.predicates_core.proofs.Several.{each_holds};
 ghost use Rattle.predicates_core.proofs.ThresholdCases.{threshold_text_fits, one_by_threshold};
 ghost use Rattle.predicates_core.proofs.ThresholdCases.{has_threshold};
 ghost use Rattle.predicates_part.specs.Members.{inner_of, members_text, quantifier_of};
 
-use predicates_boolean::boolean::{AndPredicate, NotPredicate};
+use predicates_boolean::boolean::AndPredicate;
+use predicates_boolean::threshold::{LimitPredicate, Threshold};
 use predicates_core::custom::{
     AtLeast, AtLeastOne, Counting, Every, HowMany, Quantifier, members_case, members_change,
     members_explained, members_hold, one_child,
@@ -45,7 +46,7 @@ pub type AnyPredicate<P> = MembersPredicate<AtLeastOne, P>;
 pub type MembersAtLeastPredicate<P> = MembersPredicate<AtLeast, P>;
 
 /// Holds of a list where its inner predicate holds of at most so many members.
-pub type MembersAtMostPredicate<P, U> = NotPredicate<MembersAtLeastPredicate<P>, Vec<U>>;
+pub type MembersAtMostPredicate<P, U> = LimitPredicate<MembersAtLeastPredicate<P>, Vec<U>>;
 
 /// Holds of a list where its inner predicate holds of so many members, and no more.
 pub type MembersExactlyPredicate<P, U> = AndPredicate<
@@ -110,6 +111,16 @@ impl<Q: Quantifier, P: fmt::Display> fmt::Display for MembersPredicate<Q, P> {
             HowMany::AtLeastOne => write!(f, "any({inner})"),
             HowMany::AtLeast(least) => write!(f, "at_least({least}, {inner})"),
         }
+    }
+}
+
+impl<Q: Quantifier, P: fmt::Display> Threshold for MembersPredicate<Q, P> {
+    ghost most_text = { λ p most. counted_text
+        (codes "at_most") most (P.output (inner_of p) ∷ []) };
+
+    fn fmt_at_most<W: fmt::Write>(&self, most: usize, f: &mut fmt::Formatter<W>) -> fmt::Result {
+        let inner = &self.inner;
+        write!(f, "at_most({most}, {inner})")
     }
 }
 

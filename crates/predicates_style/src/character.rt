@@ -1,7 +1,7 @@
 //! The characters of a text, escaped or as they are.
 ghost use Rattle.std.specs.Prelude.{◌≡◌, ◌++◌, OnOk, string_bytes, take};
 ghost use Rattle.std.specs.Str.{chars};
-ghost use Rattle.predicates_style.specs.Characters.{escape, written_character};
+ghost use Rattle.predicates_style.specs.Characters.{escape, is_escaped, written_character};
 ghost use Rattle.predicates_style.specs.Characters.{written_characters, written_text};
 
 use std::alloc::AllocError;
@@ -21,11 +21,25 @@ fn write_escape(out: &mut String, c: char) -> Result<(), AllocError>
     }
 }
 
+// Whether the character moves, hides or turns what is printed around it.
+fn is_escaped(c: char) -> bool
+    ensures { result ≡ is_escaped c }
+{
+    match c {
+        // What sets the direction of writing.
+        '\u{61c}' | '\u{200e}' | '\u{200f}' | '\u{202a}'..='\u{202e}' => true,
+        '\u{2066}'..='\u{2069}' => true,
+        // The separators of lines and of paragraphs, and the byte order mark.
+        '\u{2028}' | '\u{2029}' | '\u{feff}' => true,
+        _ => c.is_control(),
+    }
+}
+
 fn write_character(out: &mut String, escapes: bool, c: char) -> Result<(), AllocError>
     ensures { OnOk result
         (string_bytes out.new ≡ string_bytes out.old ++ written_character escapes c) }
 {
-    if escapes && c.is_control() {
+    if escapes && is_escaped(c) {
         write_escape(out, c)
     } else {
         out.push(c)

@@ -1,4 +1,5 @@
-//! Cases rendered for people: with limits on what is shown, without control characters, in colours.
+//! Cases rendered for people: with limits on what is shown, without characters that move, hide or
+//! turn what stands around them, in colours.
 //!
 //! ```
 //! let style = Style {

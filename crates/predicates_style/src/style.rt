@@ -9,7 +9,9 @@ pub struct Style {
     pub children: Option<usize>,
     /// How many characters of a product's value are shown at most; `None` is no limit.
     pub characters: Option<usize>,
-    /// Whether control characters are written as Rust escapes them, such as `\n` and `\u{1b}`.
+    /// Whether these are written as Rust escapes them, such as `\n` and `\u{202e}`: control
+    /// characters, what sets the direction of writing, the separators of lines and paragraphs, and
+    /// the byte order mark. A backslash is written as it is.
     pub escapes: bool,
     /// Whether `true` is green and `false` is red on a terminal.
     pub colours: bool,

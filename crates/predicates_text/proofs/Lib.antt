@@ -9,3 +9,4 @@ pub mod CaseFolding
 pub mod AdapterAnswers
 pub mod OneByte
 pub mod Searching
+pub mod Refusing

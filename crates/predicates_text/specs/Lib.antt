@@ -16,3 +16,4 @@ pub mod ViewFormulas
 pub mod ViewFormulaLaws
 pub mod AdapterParts
 pub mod Expressions
+pub mod Refusals

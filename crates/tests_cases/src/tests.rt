@@ -6,6 +6,7 @@ mod check;
 mod derives;
 mod flags;
 mod laws;
+mod made;
 mod names;
 mod prelude;
 mod static_text;

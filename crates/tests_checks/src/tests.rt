@@ -2,4 +2,5 @@ mod checks;
 mod contexts;
 mod folders;
 mod json;
+mod made;
 mod orders;

@@ -8,7 +8,7 @@ mod text_rows;
 mod texts;
 mod words;
 
-use predicates_explain::TextCheck;
+use explain_run::TextCheck;
 use std::alloc::Global;
 use std::fmt;
 use std::process::Abort;

@@ -1,5 +1,5 @@
-mod changes;
 mod counts;
-mod evaluations;
+mod limits;
+mod made;
 mod short_formulas;
 mod thresholds;

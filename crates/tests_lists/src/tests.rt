@@ -4,6 +4,7 @@ mod counting_member;
 mod functions;
 mod functions_of_fields;
 mod lists;
+mod made;
 mod memberships;
 mod part;
 mod same_members;

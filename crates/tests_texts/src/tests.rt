@@ -1,4 +1,5 @@
 mod asked;
+mod made;
 mod paths;
 mod text_memberships;
 mod texts;

@@ -4,7 +4,7 @@ ghost use Rattle.regex.specs.Patterns.{default_config, find_str};
 ghost use Rattle.regex.specs.Sources.{IsRefusal};
 ghost use Rattle.regex.specs.Strings.{regex_pattern};
 ghost use Rattle.regex.specs.Failures.{IsRightKind, HasSpanIn};
-ghost use Rattle.regex.specs.declared.error.Error.TheVariants.{Internal};
+ghost use Rattle.regex.specs.declared.error.Error.TheVariants.{Internal, OutOfMemory};
 ghost use Rattle.predicates_core.specs.Formula.{Formula};
 ghost use Rattle.predicates_core.specs.Leaves.{IsExactly};
 ghost use Rattle.predicates_core.specs.Text.{Text};
@@ -12,6 +12,7 @@ ghost use Rattle.predicates_text.specs.Expressions.{match_text, match_formula, m
 ghost use Rattle.predicates_text.specs.Expressions.{regex_text, regex_meaning, regex_matches_text};
 ghost use Rattle.predicates_text.specs.Expressions.{regex_matches_meaning, regex_matches_count};
 ghost use Rattle.predicates_text.specs.Expressions.{IsReadFromText};
+ghost use Rattle.predicates_text.specs.Refusals.{IsExpression, IsRefusedBy};
 ghost use Rattle.predicates_core.specs.Tree.{empty};
 ghost use Rattle.std.specs.Prelude.{codes};
 ghost use Rattle.predicates_core.specs.Label.{value_of};
@@ -63,6 +64,8 @@ pub fn is_match(
         ↔ IsExactly (match_formula (string_bytes pattern) (regex_meaning p) (string_bytes v)) f) }
     ensures fallible { IfOk result (λ p. (v : Text)
         → ¬ (⟦<TextTestPredicate<RegexPredicate> as Predicate<String>>⟧.infallible p v)) }
+    ensures expression { IfOk result (λ p. IsExpression (string_bytes pattern)) }
+    ensures exact { IfErr result (λ e. e ≢ OutOfMemory → IsRefusedBy (string_bytes pattern) e) }
     ensures refused { IfErr result (IsRefusal default_config (string_bytes pattern)) }
     ensures kind { IfErr result (IsRightKind default_config (string_bytes pattern)) }
     ensures span { IfErr result (HasSpanIn (string_bytes pattern)) }

@@ -1,63 +1,48 @@
+use crate::tests::made::{Host, describes, explains, in_box, owned};
 use predicates::prelude::*;
 use predicates::static_text::StaticText;
 use predicates::{BoxPredicate, TextPredicate};
-use predicates_testing::{explains, is_described, render_verdict, repeated, text};
-use std::alloc::Global;
-use std::process::Abort;
+use tests_support::{render_verdict, repeated};
 
 // A box over a leaf.
-fn is_empty(rt: &impl Abort, alloc: Global) -> BoxPredicate {
-    BoxPredicate::new(
-        alloc,
-        Box::new(alloc, predicate::str::is_empty()).expect(rt, "memory"),
-    )
-    .expect(rt, "memory")
+fn is_empty(rt: &impl Host) -> BoxPredicate {
+    BoxPredicate::new(rt.alloc(), in_box(rt, predicate::str::is_empty())).expect(rt, "memory")
 }
 
 // A box over a leaf with a pattern.
-fn contains_a(rt: &impl Abort, alloc: Global) -> BoxPredicate {
-    let part = predicate::str::contains(text(alloc, "a").expect(rt, "memory"));
-    BoxPredicate::new(alloc, Box::new(alloc, part).expect(rt, "memory")).expect(rt, "memory")
+fn contains_a(rt: &impl Host) -> BoxPredicate {
+    let part = predicate::str::contains(owned(rt, "a"));
+    BoxPredicate::new(rt.alloc(), in_box(rt, part)).expect(rt, "memory")
 }
 
 // A box over a named constant.
-fn any(rt: &impl Abort, alloc: Global) -> BoxPredicate {
+fn any(rt: &impl Host) -> BoxPredicate {
     let any = predicate::always().name(StaticText::new("any"));
-    BoxPredicate::new(alloc, Box::new(alloc, any).expect(rt, "memory")).expect(rt, "memory")
+    BoxPredicate::new(rt.alloc(), in_box(rt, any)).expect(rt, "memory")
 }
 
-// Adds the box that was made.
-fn add_box(rt: &impl Abort, boxes: &mut Vec<BoxPredicate>, made: BoxPredicate) {
-    boxes.push(made).expect(rt, "memory");
-}
-
-fn three_boxes(rt: &impl Abort, alloc: Global) -> Vec<BoxPredicate> {
-    let mut boxes = Vec::new(alloc);
-    add_box(rt, &mut boxes, is_empty(rt, alloc));
-    add_box(rt, &mut boxes, contains_a(rt, alloc));
-    add_box(rt, &mut boxes, any(rt, alloc));
-    boxes
+fn three_boxes(rt: &impl Host) -> Vec<BoxPredicate> {
+    vec![in rt.alloc(); is_empty(rt), contains_a(rt), any(rt)].expect(rt, "memory")
 }
 
 // The lines of the boxes' cases on the text, in order.
-fn lines_of(rt: &impl Abort, alloc: Global, boxes: &[BoxPredicate], item: &String) -> String {
-    let mut out = String::new(alloc);
+fn lines_of(rt: &impl Host, boxes: &[BoxPredicate], item: &String) -> String {
+    let mut out = String::new(rt.alloc());
     for check in boxes {
-        render_verdict(alloc, &mut out, check, item).expect(rt, "memory");
+        render_verdict(rt.alloc(), &mut out, check, item).expect(rt, "memory");
     }
     out
 }
 
 // Whether the cases of three boxes on the text have these lines.
-fn explains_three(rt: &impl Abort, alloc: Global, item: &str, lines: &str) -> bool {
-    let item = text(alloc, item).expect(rt, "memory");
-    let boxes = three_boxes(rt, alloc);
-    lines_of(rt, alloc, boxes.as_slice(), &item).as_str() == lines
+fn explains_three(rt: &impl Host, item: &str, lines: &str) -> bool {
+    let item = owned(rt, item);
+    let boxes = three_boxes(rt);
+    lines_of(rt, boxes.as_slice(), &item).as_str() == lines
 }
 
 #[test]
 fn boxes_in_a_loop(rt: HostRuntime) {
-    let alloc = rt.alloc();
     let lines = "\
 var.is_empty() = false
   - var: b
@@ -66,55 +51,30 @@ var.contains(a) = false
 any = true
   any: true = true
 ";
-    assert!(rt; explains_three(&rt, alloc, "b", lines));
-    assert!(rt;
-        is_described(alloc, &any(&rt, alloc), "any\nany: true\n  value=true\n").expect(
-            &rt, "memory"
-        )
-    );
+    assert!(rt; explains_three(&rt, "b", lines));
+    assert!(rt; describes(&rt, any(&rt), "any\nany: true\n  value=true\n"));
 }
 
 // A constant in a box.
-fn constant(rt: &impl Abort, alloc: Global) -> BoxPredicate {
-    let made: Box<dyn TextPredicate> = Box::new(alloc, predicate::always()).expect(rt, "memory");
-    BoxPredicate::new(alloc, made).expect(rt, "memory")
-}
-
-fn explains_constant(rt: &impl Abort, alloc: Global) -> bool {
-    let item = text(alloc, "b").expect(rt, "memory");
-    explains(alloc, &constant(rt, alloc), &item, "true = true\n").expect(rt, "memory")
-}
-
-fn describes_constant(rt: &impl Abort, alloc: Global) -> bool {
-    is_described(alloc, &constant(rt, alloc), "true\nvalue=true\n").expect(rt, "memory")
+fn constant(rt: &impl Host) -> BoxPredicate {
+    let made: Box<dyn TextPredicate> = in_box(rt, predicate::always());
+    BoxPredicate::new(rt.alloc(), made).expect(rt, "memory")
 }
 
 // Whether it has the debug form of a box.
-fn is_constant_shown(rt: &impl Abort, alloc: Global) -> bool {
-    let boxed = constant(rt, alloc);
-    format!(in alloc; "{boxed:?}").expect(rt, "memory").as_str() == "BoxPredicate"
+fn is_constant_shown(rt: &impl Host) -> bool {
+    let boxed = constant(rt);
+    format!(in rt.alloc(); "{boxed:?}")
+        .expect(rt, "memory")
+        .as_str()
+        == "BoxPredicate"
 }
 
 #[test]
 fn a_constant_in_a_box(rt: HostRuntime) {
-    assert!(rt; explains_constant(&rt, rt.alloc()));
-    assert!(rt; describes_constant(&rt, rt.alloc()));
-    assert!(rt; is_constant_shown(&rt, rt.alloc()));
-}
-
-// Whether a box under others is explained with the lines.
-fn explains_under_others(rt: &impl Abort, alloc: Global, lines: &str) -> bool {
-    let item = text(alloc, "  ").expect(rt, "memory");
-    let part = contains_a(rt, alloc);
-    let either = is_empty(rt, alloc).trim().name("blank").or(part);
-    explains(alloc, &either, &item, lines).expect(rt, "memory")
-}
-
-// Whether it describes its parts so.
-fn describes_under_others(rt: &impl Abort, alloc: Global, lines: &str) -> bool {
-    let part = contains_a(rt, alloc);
-    let either = is_empty(rt, alloc).trim().name("blank").or(part);
-    is_described(alloc, &either, lines).expect(rt, "memory")
+    assert!(rt; explains(&rt, constant(&rt), owned(&rt, "b"), "true = true\n"));
+    assert!(rt; describes(&rt, constant(&rt), "true\nvalue=true\n"));
+    assert!(rt; is_constant_shown(&rt));
 }
 
 #[test]
@@ -131,22 +91,18 @@ left: blank
     predicate: var.is_empty()
 right: var.contains(a)
 ";
-    assert!(rt; explains_under_others(&rt, rt.alloc(), lines));
-    assert!(rt; describes_under_others(&rt, rt.alloc(), described));
+    let either = is_empty(&rt).trim().name("blank").or(contains_a(&rt));
+    assert!(rt; explains(&rt, either, owned(&rt, "  "), lines));
+    let either = is_empty(&rt).trim().name("blank").or(contains_a(&rt));
+    assert!(rt; describes(&rt, either, described));
 }
 
 // `xor` under `trim` and a name, in a box.
-fn boxed_xor(rt: &impl Abort, alloc: Global) -> BoxPredicate {
-    let part = predicate::str::contains(text(alloc, "a").expect(rt, "memory"));
+fn boxed_xor(rt: &impl Host) -> BoxPredicate {
+    let part = predicate::str::contains(owned(rt, "a"));
     let either = predicate::str::is_empty().xor(part).trim();
     let named = either.name(StaticText::new("either"));
-    BoxPredicate::new(alloc, Box::new(alloc, named).expect(rt, "memory")).expect(rt, "memory")
-}
-
-// Whether it is explained by the lines.
-fn is_xor_boxed(rt: &impl Abort, alloc: Global, item: &str, lines: &str) -> bool {
-    let item = text(alloc, item).expect(rt, "memory");
-    explains(alloc, &boxed_xor(rt, alloc), &item, lines).expect(rt, "memory")
+    BoxPredicate::new(rt.alloc(), in_box(rt, named)).expect(rt, "memory")
 }
 
 #[test]
@@ -159,81 +115,50 @@ either = true
     right: var.contains(a) = true
       - var: a
 ";
-    assert!(rt; is_xor_boxed(&rt, rt.alloc(), " a ", lines));
-}
-
-// Whether a comparison alone has the lines of its case on `4`.
-fn explains_alone(rt: &impl Abort, alloc: Global, lines: &str) -> bool {
-    let item = text(alloc, "4").expect(rt, "memory");
-    explains(
-        alloc,
-        &predicate::gt(text(alloc, "5").expect(rt, "memory")),
-        &item,
-        lines,
-    )
-    .expect(rt, "memory")
-}
-
-// Whether it has them in a box.
-fn explains_boxed(rt: &impl Abort, alloc: Global, lines: &str) -> bool {
-    let item = text(alloc, "4").expect(rt, "memory");
-    let alone = predicate::gt(text(alloc, "5").expect(rt, "memory"));
-    let boxed = BoxPredicate::new(alloc, Box::new(alloc, alone).expect(rt, "memory")).expect(
-        rt, "memory",
-    );
-    explains(alloc, &boxed, &item, lines).expect(rt, "memory")
+    assert!(rt; explains(&rt, boxed_xor(&rt), owned(&rt, " a "), lines));
 }
 
 #[test]
 fn explained_boxed_or_not(rt: HostRuntime) {
     let lines = "var > \"5\" = false\n  - var: \"4\"\n";
-    assert!(rt; explains_alone(&rt, rt.alloc(), lines));
-    assert!(rt; explains_boxed(&rt, rt.alloc(), lines));
+    let item = owned(&rt, "4");
+    assert!(rt; explains(&rt, predicate::gt(owned(&rt, "5")), item, lines));
+    let held = in_box(&rt, predicate::gt(owned(&rt, "5")));
+    let boxed = BoxPredicate::new(rt.alloc(), held).expect(&rt, "memory");
+    assert!(rt; explains(&rt, boxed, owned(&rt, "4"), lines));
 }
 
 // A boxed comparison with the letters.
-fn boxed_letters(rt: &impl Abort, alloc: Global, letters: &String) -> BoxPredicate {
+fn boxed_letters(rt: &impl Host, letters: &String) -> BoxPredicate {
     let is_letters = predicate::eq(letters.clone().expect(rt, "memory"));
-    BoxPredicate::new(alloc, Box::new(alloc, is_letters).expect(rt, "memory")).expect(rt, "memory")
+    BoxPredicate::new(rt.alloc(), in_box(rt, is_letters)).expect(rt, "memory")
 }
 
 // Whether one with this many letters is explained on them.
-fn explains_letters(rt: &impl Abort, alloc: Global, length: u32) -> bool {
-    let letters = repeated(alloc, "a", length, "").expect(rt, "memory");
-    let lines = format!(in alloc; "var == \"{letters}\" = true\n  - var: \"{letters}\"\n").expect(
-        rt, "memory",
-    );
-    explains(
-        alloc,
-        &boxed_letters(rt, alloc, &letters),
-        &letters,
-        lines.as_str(),
-    )
-    .expect(rt, "memory")
+fn explains_letters(rt: &impl Host, length: u32) -> bool {
+    let letters = repeated(rt.alloc(), "a", length, "").expect(rt, "memory");
+    let lines = format!(in rt.alloc();
+        "var == \"{letters}\" = true\n  - var: \"{letters}\"\n"
+    ).expect(rt, "memory");
+    explains(rt, boxed_letters(rt, &letters), letters, lines.as_str())
 }
 
 // Whether it is on `b`.
-fn explains_other(rt: &impl Abort, alloc: Global, length: u32) -> bool {
+fn explains_other(rt: &impl Host, length: u32) -> bool {
     let (letters, other) = (
-        repeated(alloc, "a", length, "").expect(rt, "memory"),
-        text(alloc, "b").expect(rt, "memory"),
+        repeated(rt.alloc(), "a", length, "").expect(rt, "memory"),
+        owned(rt, "b"),
     );
-    let lines = format!(in alloc; "var == \"{letters}\" = false\n  - var: \"b\"\n").expect(
+    let lines = format!(in rt.alloc(); "var == \"{letters}\" = false\n  - var: \"b\"\n").expect(
         rt, "memory",
     );
-    explains(
-        alloc,
-        &boxed_letters(rt, alloc, &letters),
-        &other,
-        lines.as_str(),
-    )
-    .expect(rt, "memory")
+    explains(rt, boxed_letters(rt, &letters), other, lines.as_str())
 }
 
 #[test]
 fn boxes_of_long_texts(rt: HostRuntime) {
     for length in [0, 1, 300, 70_000] {
-        assert!(rt; explains_letters(&rt, rt.alloc(), length), "{length}");
-        assert!(rt; explains_other(&rt, rt.alloc(), length), "{length}");
+        assert!(rt; explains_letters(&rt, length), "{length}");
+        assert!(rt; explains_other(&rt, length), "{length}");
     }
 }

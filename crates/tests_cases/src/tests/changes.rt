@@ -1,22 +1,19 @@
 //! What would have to change, as the guide prints it beside the reason.
+use crate::tests::made::{Host, owned};
 use predicates::prelude::*;
 use predicates_core::reflection::Case;
-use predicates_testing::text;
-use std::alloc::Global;
-use std::process::Abort;
 
 // Whether the case has these lines.
-fn has_lines(rt: &impl Abort, alloc: Global, case: Option<Case>, lines: &str) -> bool {
+fn has_lines(rt: &impl Host, case: Option<Case>, lines: &str) -> bool {
     match case {
-        Some(case) => render(alloc, &case).expect(rt, "memory").as_str() == lines,
+        Some(case) => render(rt.alloc(), &case).expect(rt, "memory").as_str() == lines,
         None => false,
     }
 }
 
 // The reason's lines and those of the change, where the predicate is false of the item.
 fn is_told<P: PredicateChange<Item> + Drop, Item: Drop>(
-    rt: &impl Abort,
-    alloc: Global,
+    rt: &impl Host,
     predicate: P,
     item: Item,
     lines: [&str; 2],
@@ -25,24 +22,23 @@ fn is_told<P: PredicateChange<Item> + Drop, Item: Drop>(
 {
     let [reason, change] = lines;
     let why = predicate
-        .find_case(alloc, false, &item)
+        .find_case(rt.alloc(), false, &item)
         .expect(rt, "memory");
     let what = predicate
-        .find_change(alloc, Some(false), &item)
+        .find_change(rt.alloc(), Some(false), &item)
         .expect(rt, "memory");
-    has_lines(rt, alloc, why, reason) && has_lines(rt, alloc, what, change)
+    has_lines(rt, why, reason) && has_lines(rt, what, change)
 }
 
-fn password(rt: &impl Abort, alloc: Global) -> bool {
-    let digit = predicate::str::contains(text(alloc, "7").expect(rt, "memory"));
-    let dash = predicate::str::contains(text(alloc, "-").expect(rt, "memory"));
-    let start = predicate::str::starts_with(text(alloc, "x").expect(rt, "memory"));
+fn password(rt: &impl Host) -> bool {
+    let digit = predicate::str::contains(owned(rt, "7"));
+    let dash = predicate::str::contains(owned(rt, "-"));
+    let start = predicate::str::starts_with(owned(rt, "x"));
     let policy = digit.or(dash).and(start);
     is_told(
         rt,
-        alloc,
         policy,
-        text(alloc, "abc").expect(rt, "memory"),
+        owned(rt, "abc"),
         [
             "\
 ((var.contains(7) || var.contains(-)) && var.starts_with(\"x\")) = false
@@ -64,11 +60,10 @@ fn password(rt: &impl Abort, alloc: Global) -> bool {
     )
 }
 
-fn first_and_not_fewest(rt: &impl Abort, alloc: Global) -> bool {
+fn first_and_not_fewest(rt: &impl Host) -> bool {
     let policy = predicate::ge(10).and(predicate::ne(3)).or(predicate::eq(7));
     is_told(
         rt,
-        alloc,
         policy,
         3,
         [
@@ -92,12 +87,11 @@ fn first_and_not_fewest(rt: &impl Abort, alloc: Global) -> bool {
     )
 }
 
-fn members(rt: &impl Abort, alloc: Global) -> bool {
+fn members(rt: &impl Host) -> bool {
     is_told(
         rt,
-        alloc,
         predicate::ge(18).of_each(),
-        vec![in alloc; 20, 17, 30, 16].expect(rt, "memory"),
+        vec![in rt.alloc(); 20, 17, 30, 16].expect(rt, "memory"),
         [
             "\
 each(var >= 18) = false
@@ -119,13 +113,12 @@ each(var >= 18) = false
 }
 
 #[tactic(auto, using(predicates_core::proofs::Several::each_holds))]
-fn threshold(rt: &impl Abort, alloc: Global) -> bool {
-    let rules = vec![in alloc; predicate::ge(1), predicate::ge(5), predicate::ge(9)].expect(
+fn threshold(rt: &impl Host) -> bool {
+    let rules = vec![in rt.alloc(); predicate::ge(1), predicate::ge(5), predicate::ge(9)].expect(
         rt, "memory",
     );
     is_told(
         rt,
-        alloc,
         predicate::at_least(2, rules),
         4,
         [
@@ -150,8 +143,8 @@ at_least(2, var >= 1, var >= 5, var >= 9) = false
 
 #[test]
 fn reason_and_change(rt: HostRuntime) {
-    assert!(rt; password(&rt, rt.alloc()));
-    assert!(rt; first_and_not_fewest(&rt, rt.alloc()));
-    assert!(rt; members(&rt, rt.alloc()));
-    assert!(rt; threshold(&rt, rt.alloc()));
+    assert!(rt; password(&rt));
+    assert!(rt; first_and_not_fewest(&rt));
+    assert!(rt; members(&rt));
+    assert!(rt; threshold(&rt));
 }

@@ -4,9 +4,10 @@ mod tree;
 use predicates::check::{Failure, Sifted, Unmet};
 use predicates::prelude::*;
 use predicates::reflection::{Case, render_onto};
-use predicates_testing::text;
+use predicates_style::Style;
 use std::alloc::{AllocError, Global};
 use std::process::Abort;
+use tests_support::text;
 
 const ELEVEN: &str = "(var >= 5 && var <= 10) = false\n  right: var <= 10 = false\n    - var: 11\n";
 
@@ -55,6 +56,58 @@ fn requirements(rt: HostRuntime) {
     assert!(rt; is_eleven_required_as(&rt, alloc));
     assert!(rt; ends_in(&rt, alloc, Err(Unmet::NoMemory), "no memory"));
     assert!(rt; is_required_by_function(&rt, alloc, 4, "big(var) = false\n"));
+}
+
+// No limits.
+const WHOLE: Style = Style {
+    children: None,
+    characters: None,
+    escapes: false,
+    colours: false,
+};
+
+// One child of each node, and one character of each value.
+const SHORT: Style = Style {
+    children: Some(1),
+    characters: Some(1),
+    escapes: false,
+    colours: false,
+};
+
+const ALL_LINES: &str = "\
+any(var >= 5) = false
+  item: var >= 5 = false
+    - var: -2
+  item: var >= 5 = false
+    - var: 1
+  item: var >= 5 = false
+    - var: 3
+";
+
+const FIRST_LINES: &str = "\
+any(var >= 5) = false
+  item: var >= 5 = false
+    - var (first 1 of 2 characters): -
+  .. 2 more
+";
+
+// How the requirement ends that one of the numbers is 5 or more.
+const STYLED: [(Style, [i32; 3], &str); 4] = [
+    (WHOLE, [-2, 1, 7], "met"),
+    (SHORT, [-2, 1, 7], "met"),
+    (WHOLE, [-2, 1, 3], ALL_LINES),
+    (SHORT, [-2, 1, 3], FIRST_LINES),
+];
+
+#[test]
+fn requirements_in_a_style(rt: HostRuntime) {
+    let alloc = rt.alloc();
+    for (style, numbers, expected) in STYLED {
+        let item = Vec::from_array(alloc, numbers).expect(&rt, "memory");
+        let some_large = predicate::ge(5i32).of_any();
+        let ended = require_styled(alloc, &style, &some_large, &item);
+        assert!(rt; ends_in(&rt, alloc, ended, expected), "{expected}");
+    }
 }
 
 // The lines of the cases, one after the other.

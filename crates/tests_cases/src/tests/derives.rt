@@ -1,174 +1,108 @@
 //! The traits that types derive, at types that have them.
+use crate::tests::made::{Host, in_box, owned, vec_of};
 use predicates::boolean::PredicateBooleanExt;
 use predicates::constant::{always, never};
-use predicates::iter::{in_hash, in_iter};
+use predicates::iter::{InPredicate, OrdInPredicate, in_hash, in_iter};
 use predicates::name::PredicateNameExt;
 use predicates::ord::{EqPredicate, eq, ge, lt, ne};
 use predicates::static_text::StaticText;
 use predicates::{BoxPredicate, Predicate};
-use predicates_testing::{are_copied, differ, text};
-use std::alloc::Global;
 use std::fmt;
-use std::process::Abort;
+use tests_support::{are_copied, differ};
 
 // An item that derives nothing.
 #[derive(Drop)]
 struct Bare;
 
 // Whether the debug form has a text, in both of its forms.
-fn is_shown<P: fmt::Debug>(rt: &impl Abort, alloc: Global, predicate: &P) -> bool {
-    let is_plain = !format!(in alloc; "{predicate:?}")
+fn is_shown<P: fmt::Debug>(rt: &impl Host, predicate: &P) -> bool {
+    let is_plain = !format!(in rt.alloc(); "{predicate:?}")
         .expect(rt, "memory")
         .is_empty();
     is_plain
-        && !format!(in alloc; "{predicate:#?}")
+        && !format!(in rt.alloc(); "{predicate:#?}")
             .expect(rt, "memory")
             .is_empty()
 }
 
-fn leaves_are_copied(rt: &impl Abort, alloc: Global) -> [bool; 3] {
-    [
-        are_copied(alloc, always::<Bare>(), never()).expect(rt, "memory"),
-        are_copied(alloc, eq(5i32), ne(5)).expect(rt, "memory"),
-        are_copied(alloc, ge(5i32), lt(5)).expect(rt, "memory"),
-    ]
-}
-
-fn joins_are_copied(rt: &impl Abort, alloc: Global) -> [bool; 3] {
-    let (five, six) = (ge(5i32), ge(6i32));
-    [
-        are_copied(alloc, five.and(never()), six.and(never())).expect(rt, "memory"),
-        are_copied(alloc, five.or(never()), five.or(always())).expect(rt, "memory"),
-        are_copied(alloc, five.xor(never()), six.xor(never())).expect(rt, "memory"),
-    ]
-}
-
-fn wrappers_are_copied(rt: &impl Abort, alloc: Global) -> [bool; 2] {
-    let (five, six) = (ge(5i32), ge(6i32));
-    [
-        are_copied(alloc, five.not(), six.not()).expect(rt, "memory"),
-        are_copied(alloc, five.name("big"), five.name("large")).expect(rt, "memory"),
-    ]
+// Whether the copy and the clone equal the value, which differs from the other.
+fn is_copied<T: fmt::Debug + Copy + Eq>(rt: &impl Host, value: T, other: T) -> bool {
+    are_copied(rt.alloc(), value, other).expect(rt, "memory")
 }
 
 #[test]
 fn copies_equal_what_they_copy(rt: HostRuntime) {
-    assert_eq!(rt; leaves_are_copied(&rt, rt.alloc()), [true; 3]);
-    assert_eq!(rt; joins_are_copied(&rt, rt.alloc()), [true; 3]);
-    assert_eq!(rt; wrappers_are_copied(&rt, rt.alloc()), [true; 2]);
+    let (five, six) = (ge(5i32), ge(6i32));
+    assert!(rt; is_copied(&rt, always::<Bare>(), never()));
+    assert!(rt; is_copied(&rt, eq(5i32), ne(5)));
+    assert!(rt; is_copied(&rt, five, lt(5)));
+    assert!(rt; is_copied(&rt, five.and(never()), six.and(never())));
+    assert!(rt; is_copied(&rt, five.or(never()), five.or(always())));
+    assert!(rt; is_copied(&rt, five.xor(never()), six.xor(never())));
+    assert!(rt; is_copied(&rt, five.not(), six.not()));
+    assert!(rt; is_copied(&rt, five.name("big"), five.name("large")));
 }
 
 // Whether a copy is named on, also by a text without a lifetime, and equals the first.
-fn is_copy_named(rt: &impl Abort, alloc: Global) -> bool {
+fn is_copy_named(rt: &impl Host) -> bool {
     let one = never().name("x").or(lt(3i32).name("y"));
     let other = one;
     let held = other.name(StaticText::new("held")).not();
-    one == other && !held.eval(alloc, &1).expect(rt, "memory")
+    one == other && !held.eval(rt.alloc(), &1).expect(rt, "memory")
 }
 
 #[test]
 fn a_copy_is_named_again(rt: HostRuntime) {
-    assert!(rt; is_copy_named(&rt, rt.alloc()));
+    assert!(rt; is_copy_named(&rt));
 }
 
-fn is_letter(rt: &impl Abort, alloc: Global, letter: &str) -> EqPredicate<String> {
-    eq(text(alloc, letter).expect(rt, "memory"))
+fn is_letter(rt: &impl Host, letter: &str) -> EqPredicate<String> {
+    eq(owned(rt, letter))
 }
 
 // Whether the values differ, each is equal to itself, and both are shown.
-fn do_differ<T: fmt::Debug + Eq + Drop>(rt: &impl Abort, alloc: Global, left: T, right: T) -> bool {
-    differ(alloc, &left, &right).expect(rt, "memory")
+fn do_differ<T: fmt::Debug + Eq + Drop>(rt: &impl Host, left: T, right: T) -> bool {
+    differ(rt.alloc(), &left, &right).expect(rt, "memory")
 }
 
 // Whether comparisons with texts are cloned, though a text is not copied.
-fn is_letter_cloned(rt: &impl Abort, alloc: Global) -> bool {
-    let letter = is_letter(rt, alloc, "a");
+fn is_letter_cloned(rt: &impl Host) -> bool {
+    let letter = is_letter(rt, "a");
     letter.clone().expect(rt, "memory") == letter
 }
 
-fn do_letters_differ(rt: &impl Abort, alloc: Global) -> bool {
-    do_differ(
-        rt,
-        alloc,
-        is_letter(rt, alloc, "a"),
-        is_letter(rt, alloc, "b"),
-    )
+// The list of the members, and the sorted one.
+fn listed(rt: &impl Host, members: &[i64]) -> InPredicate<i64> {
+    in_iter(rt.alloc(), vec_of(rt, members)).expect(rt, "memory")
 }
 
-// Whether combinators of what is not copied are compared.
-fn do_joins_differ(rt: &impl Abort, alloc: Global) -> bool {
-    let (left, right) = (is_letter(rt, alloc, "a"), is_letter(rt, alloc, "b"));
-    do_differ(rt, alloc, always().and(left), always().and(right))
-}
-
-fn do_exclusive_joins_differ(rt: &impl Abort, alloc: Global) -> bool {
-    let (left, right) = (is_letter(rt, alloc, "a"), is_letter(rt, alloc, "a"));
-    do_differ(rt, alloc, always().xor(left), never().xor(right))
-}
-
-fn do_lists_differ(rt: &impl Abort, alloc: Global) -> bool {
-    let left = in_iter(alloc, [3i64, 1]).expect(rt, "memory");
-    do_differ(
-        rt,
-        alloc,
-        left,
-        in_iter(alloc, [1i64, 3]).expect(rt, "memory"),
-    )
-}
-
-// Whether two lists are equal once sorted.
-fn are_sorted_alike(rt: &impl Abort, alloc: Global) -> bool {
-    let first = in_iter(alloc, [3i64, 1])
-        .expect(rt, "memory")
-        .sort()
-        .expect(rt, "memory");
-    let second = in_iter(alloc, [1i64, 3])
-        .expect(rt, "memory")
-        .sort()
-        .expect(rt, "memory");
-    first == second
-}
-
-fn do_sorted_lists_differ(rt: &impl Abort, alloc: Global) -> bool {
-    let left = in_iter(alloc, [3i64, 1])
-        .expect(rt, "memory")
-        .sort()
-        .expect(rt, "memory");
-    do_differ(
-        rt,
-        alloc,
-        left,
-        in_iter(alloc, [1i64, 3, 3])
-            .expect(rt, "memory")
-            .sort()
-            .expect(rt, "memory"),
-    )
+fn sorted(rt: &impl Host, members: &[i64]) -> OrdInPredicate<i64> {
+    listed(rt, members).sort().expect(rt, "memory")
 }
 
 #[test]
 fn clones_and_lists_are_compared(rt: HostRuntime) {
-    let alloc = rt.alloc();
-    assert!(rt; is_letter_cloned(&rt, alloc));
-    assert!(rt; do_letters_differ(&rt, alloc));
-    assert!(rt; do_joins_differ(&rt, alloc));
-    assert!(rt; do_exclusive_joins_differ(&rt, alloc));
-    assert!(rt; do_lists_differ(&rt, alloc));
-    assert!(rt; are_sorted_alike(&rt, alloc));
-    assert!(rt; do_sorted_lists_differ(&rt, alloc));
+    assert!(rt; is_letter_cloned(&rt));
+    assert!(rt; do_differ(&rt, is_letter(&rt, "a"), is_letter(&rt, "b")));
+    let (left, right) = (is_letter(&rt, "a"), is_letter(&rt, "b"));
+    assert!(rt; do_differ(&rt, always().and(left), always().and(right)));
+    let (left, right) = (is_letter(&rt, "a"), is_letter(&rt, "a"));
+    assert!(rt; do_differ(&rt, always().xor(left), never().xor(right)));
+    assert!(rt; do_differ(&rt, listed(&rt, &[3, 1]), listed(&rt, &[1, 3])));
+    assert!(rt; sorted(&rt, &[3, 1]) == sorted(&rt, &[1, 3]));
+    assert!(rt; do_differ(&rt, sorted(&rt, &[3, 1]), sorted(&rt, &[1, 3, 3])));
 }
 
 // Whether a set is shown.
-fn is_set_shown(rt: &impl Abort, alloc: Global) -> bool {
-    is_shown(rt, alloc, &in_hash(alloc, [1i64]).expect(rt, "memory"))
+fn is_set_shown(rt: &impl Host) -> bool {
+    is_shown(rt, &in_hash(rt.alloc(), [1i64]).expect(rt, "memory"))
 }
 
 // Whether one in a box is shown by its type's name, also in the alternate form.
-fn is_box_shown(rt: &impl Abort, alloc: Global) -> bool {
-    let held = always().and(is_letter(rt, alloc, "a"));
-    let boxed = BoxPredicate::new(alloc, Box::new(alloc, held).expect(rt, "memory")).expect(
-        rt, "memory",
-    );
-    format!(in alloc; "{boxed:#?}")
+fn is_box_shown(rt: &impl Host) -> bool {
+    let held = always().and(is_letter(rt, "a"));
+    let boxed = BoxPredicate::new(rt.alloc(), in_box(rt, held)).expect(rt, "memory");
+    format!(in rt.alloc(); "{boxed:#?}")
         .expect(rt, "memory")
         .as_str()
         == "BoxPredicate"
@@ -176,6 +110,6 @@ fn is_box_shown(rt: &impl Abort, alloc: Global) -> bool {
 
 #[test]
 fn debug_forms_of_a_set_and_of_a_box(rt: HostRuntime) {
-    assert!(rt; is_set_shown(&rt, rt.alloc()));
-    assert!(rt; is_box_shown(&rt, rt.alloc()));
+    assert!(rt; is_set_shown(&rt));
+    assert!(rt; is_box_shown(&rt));
 }

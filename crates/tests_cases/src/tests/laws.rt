@@ -1,31 +1,30 @@
 //! Each law, called, beside what it says of the predicates themselves.
+use crate::tests::made::Host;
 use predicates::boolean::PredicateBooleanExt;
 use predicates::iter::{in_hash, in_iter};
 use predicates::laws;
 use predicates::ord::{eq, ge, gt, le, lt, ne};
 use predicates_core::Predicate;
-use predicates_testing::verdict;
-use std::alloc::Global;
-use std::process::Abort;
+use tests_support::verdict;
 
 // What the predicate answers of the item, and ends here.
-fn holds<P: Predicate<i64> + Drop>(rt: &impl Abort, alloc: Global, predicate: P, item: i64) -> bool
+fn holds<P: Predicate<i64> + Drop>(rt: &impl Host, predicate: P, item: i64) -> bool
     requires { P.lawful predicate }
 {
-    predicate.eval(alloc, &item).expect(rt, "memory")
+    predicate.eval(rt.alloc(), &item).expect(rt, "memory")
 }
 
 // What the comparisons with 5 answer: `lt`, `lt` denied, `ge`, `gt`, `le`, `eq` and `ne`.
-fn comparisons(rt: &impl Abort, alloc: Global, item: i64) -> [bool; 7] {
+fn comparisons(rt: &impl Host, item: i64) -> [bool; 7] {
     laws::complements(&5, &item);
     [
-        holds(rt, alloc, lt(5i64), item),
-        holds(rt, alloc, lt(5i64).not(), item),
-        holds(rt, alloc, ge(5i64), item),
-        holds(rt, alloc, gt(5i64), item),
-        holds(rt, alloc, le(5i64), item),
-        holds(rt, alloc, eq(5i64), item),
-        holds(rt, alloc, ne(5i64), item),
+        holds(rt, lt(5i64), item),
+        holds(rt, lt(5i64).not(), item),
+        holds(rt, ge(5i64), item),
+        holds(rt, gt(5i64), item),
+        holds(rt, le(5i64), item),
+        holds(rt, eq(5i64), item),
+        holds(rt, ne(5i64), item),
     ]
 }
 
@@ -38,50 +37,21 @@ const ITEMS: [(i64, [bool; 7]); 3] = [
 #[test]
 fn opposite_comparisons(rt: HostRuntime) {
     for (item, expected) in &ITEMS {
-        assert!(rt; comparisons(&rt, rt.alloc(), *item) == *expected, "{item}");
+        assert!(rt; comparisons(&rt, *item) == *expected, "{item}");
     }
 }
 
 const MEMBERS: [i64; 5] = [5, 1, 5, 3, 1];
 
-fn is_listed(rt: &impl Abort, alloc: Global, item: i64) -> bool {
-    holds(
-        rt,
-        alloc,
-        in_iter(alloc, MEMBERS).expect(rt, "memory"),
-        item,
-    )
-}
-
-fn is_sorted(rt: &impl Abort, alloc: Global, item: i64) -> bool {
-    holds(
-        rt,
-        alloc,
-        in_iter(alloc, MEMBERS)
-            .expect(rt, "memory")
-            .sort()
-            .expect(rt, "memory"),
-        item,
-    )
-}
-
-fn is_hashed(rt: &impl Abort, alloc: Global, item: i64) -> bool {
-    holds(
-        rt,
-        alloc,
-        in_hash(alloc, MEMBERS).expect(rt, "memory"),
-        item,
-    )
-}
-
 // What the list, the sorted list and the set of the members answer.
-fn among(rt: &impl Abort, alloc: Global, item: i64) -> [bool; 3] {
+fn among(rt: &impl Host, item: i64) -> [bool; 3] {
     laws::memberships(&MEMBERS, &item);
-    [
-        is_listed(rt, alloc, item),
-        is_sorted(rt, alloc, item),
-        is_hashed(rt, alloc, item),
-    ]
+    let listed = in_iter(rt.alloc(), MEMBERS).expect(rt, "memory");
+    let of_list = holds(rt, listed, item);
+    let listed = in_iter(rt.alloc(), MEMBERS).expect(rt, "memory");
+    let of_sorted = holds(rt, listed.sort().expect(rt, "memory"), item);
+    let hashed = in_hash(rt.alloc(), MEMBERS).expect(rt, "memory");
+    [of_list, of_sorted, holds(rt, hashed, item)]
 }
 
 #[test]
@@ -94,7 +64,7 @@ fn one_list_three_times(rt: HostRuntime) {
         (5, true),
         (6, false),
     ] {
-        assert!(rt; among(&rt, rt.alloc(), item) == [expected; 3], "{item}");
+        assert!(rt; among(&rt, item) == [expected; 3], "{item}");
     }
 }
 

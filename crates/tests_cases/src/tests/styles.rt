@@ -132,6 +132,53 @@ fn control_characters_escaped(rt: HostRuntime) {
     assert!(rt; renders(&rt, alloc, style, case, lines));
 }
 
+// A character between `a` and `b`, and how it is written where escapes are wanted: those that set
+// the direction of writing, the separators and the byte order mark, and beside each run of them what
+// is written as it is.
+const CHARACTERS: [(&str, &str); 19] = [
+    ("a\u{61b}b", "a\u{61b}b"),
+    ("a\u{61c}b", "a\\u{61c}b"),
+    ("a\u{61d}b", "a\u{61d}b"),
+    ("a\u{200d}b", "a\u{200d}b"),
+    ("a\u{200e}b", "a\\u{200e}b"),
+    ("a\u{200f}b", "a\\u{200f}b"),
+    ("a\u{2010}b", "a\u{2010}b"),
+    ("a\u{2027}b", "a\u{2027}b"),
+    ("a\u{2028}b", "a\\u{2028}b"),
+    ("a\u{2029}b", "a\\u{2029}b"),
+    ("a\u{202a}\u{202b}b", "a\\u{202a}\\u{202b}b"),
+    ("a\u{202c}\u{202d}b", "a\\u{202c}\\u{202d}b"),
+    ("a\u{202e}b", "a\\u{202e}b"),
+    ("a\u{202f}b", "a\u{202f}b"),
+    ("a\u{2065}b", "a\u{2065}b"),
+    ("a\u{2066}\u{2067}b", "a\\u{2066}\\u{2067}b"),
+    ("a\u{2068}\u{2069}b", "a\\u{2068}\\u{2069}b"),
+    ("a\u{206a}b", "a\u{206a}b"),
+    ("\u{fefe}\u{feff}\u{ff00}", "\u{fefe}\\u{feff}\u{ff00}"),
+];
+
+#[test]
+fn characters_that_turn_or_hide_escaped(rt: HostRuntime) {
+    let alloc = rt.alloc();
+    let style = Style {
+        escapes: true,
+        ..Style::new()
+    };
+    for (text, written) in CHARACTERS {
+        let lines = format!(in alloc; "{written} = true\n").expect(&rt, "memory");
+        assert!(rt;
+            renders(
+                &rt,
+                alloc,
+                style,
+                node(&rt, alloc, text, true),
+                lines.as_str()
+            ),
+            "{written}"
+        );
+    }
+}
+
 #[test]
 fn escapes_after_the_cut(rt: HostRuntime) {
     let alloc = rt.alloc();

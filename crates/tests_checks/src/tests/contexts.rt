@@ -4,13 +4,13 @@ ghost use Rattle.std.specs.Prelude.{◌≡◌, ◌∷◌, ◌/◌, ◌%◌, [], 
 ghost use Rattle.std.specs.Prelude.{codes, if◌then◌else◌, nat_lt, not, string_bytes};
 ghost use Rattle.predicates_core.specs.Label.{value_of};
 
+use crate::tests::made::{Host, in_box, owned};
 use predicates::custom::{HowMany, Test, TestPredicate, absent_case, leaf};
 use predicates::reflection::{Case, render};
 use predicates::{Predicate, Total};
-use predicates_dynamic::{Check, EvaluateWith, Listed, Quota, View, Wording};
+use predicates_tree::{Check, EvaluateWith, Listed, Quota, View, Wording};
 use std::alloc::{AllocError, Global};
 use std::fmt;
-use std::process::Abort;
 
 // A text that a node keeps; its parts are called so.
 #[derive(Drop)]
@@ -121,29 +121,29 @@ impl EvaluateWith<u32, Calls> for TestPredicate<Least> {
 
 type Rule = Check<TestPredicate<Least>, Digits, Titled>;
 
-fn with_title(rt: &impl Abort, alloc: Global, title: &str) -> Titled {
-    let title = String::from_str(alloc, title).expect(rt, "memory");
+fn with_title(rt: &impl Host, title: &str) -> Titled {
+    let title = owned(rt, title);
     Titled { title }
 }
 
 // Each digit of the number is at least five, or the number is at least a thousand.
-fn rule(rt: &impl Abort, alloc: Global) -> Rule {
-    let digit = Box::new(alloc, Check::Leaf(leaf(Least { least: 5 }))).expect(rt, "memory");
+fn rule(rt: &impl Host) -> Rule {
+    let digit = in_box(rt, Check::Leaf(leaf(Least { least: 5 })));
     let each = Quota::Threshold(HowMany::Every);
-    let digits = Check::Members(with_title(rt, alloc, "large digits"), each, Digits, digit);
+    let digits = Check::Members(with_title(rt, "large digits"), each, Digits, digit);
     let large = Check::Leaf(leaf(Least { least: 1000 }));
-    let parts = vec![in alloc; digits, large].expect(rt, "memory");
+    let parts = vec![in rt.alloc(); digits, large].expect(rt, "memory");
     let any = Quota::Threshold(HowMany::AtLeastOne);
-    Check::Row(with_title(rt, alloc, "large"), any, parts)
+    Check::Row(with_title(rt, "large"), any, parts)
 }
 
 // The printed case of the verdict that the rule has on the number.
-fn shown<P: Predicate<u32>>(rt: &impl Abort, alloc: Global, rule: &P, item: u32) -> String
+fn shown<P: Predicate<u32>>(rt: &impl Host, rule: &P, item: u32) -> String
     requires { P.lawful rule.now }
 {
-    match rule.explain(alloc, None, &item).expect(rt, "memory") {
-        Some(case) => render(alloc, &case).expect(rt, "memory"),
-        None => String::from_str(alloc, "").expect(rt, "memory"),
+    match rule.explain(rt.alloc(), None, &item).expect(rt, "memory") {
+        Some(case) => render(rt.alloc(), &case).expect(rt, "memory"),
+        None => owned(rt, ""),
     }
 }
 
@@ -176,21 +176,20 @@ large = false
 ";
 
 #[test]
-#[tactic(auto, using(predicates_dynamic::specs::Laws::all_leaves))]
+#[tactic(auto, using(predicates_tree::specs::Laws::all_leaves))]
 fn kept_texts_stand_in_place_of_computed_ones(rt: HostRuntime) {
-    let alloc = rt.alloc();
-    let rule = rule(&rt, alloc);
+    let rule = rule(&rt);
     let rows = [(75, DECIDED), (52, FAILED), (7, ONE_DIGIT)];
     for (item, lines) in rows {
-        assert!(rt; shown(&rt, alloc, &rule, item).as_str() == lines);
+        assert!(rt; shown(&rt, &rule, item).as_str() == lines);
     }
 }
 
 #[test]
-#[tactic(auto, using(predicates_dynamic::specs::Laws::all_leaves))]
+#[tactic(auto, using(predicates_tree::specs::Laws::all_leaves))]
 fn leaves_are_asked_with_what_the_run_keeps(rt: HostRuntime) {
     let alloc = rt.alloc();
-    let rule = rule(&rt, alloc);
+    let rule = rule(&rt);
     let mut calls = Calls { number: 0 };
     for (item, holds, asked) in [
         (75, true, 2),

@@ -1,18 +1,18 @@
 //! Rules over folders and what lies in them, read from words at run time.
 ghost use Rattle.std.specs.Prelude.{None, Some, codes, map, nat_lt, not, option_map};
-ghost use Rattle.predicates_dynamic.specs.Trees.{AllOf, computed};
+ghost use Rattle.predicates_tree.specs.Trees.{AllOf, computed};
 ghost use Rattle.tests_checks.specs.declared.tests.folders.Entry.{out-Entry};
 
 mod limits;
 
+use crate::tests::made::Host;
 use predicates::custom::{Test, TestPredicate, leaf};
 use predicates::reflection::render;
 use predicates::{Predicate, Total};
-use predicates_dynamic::{Check, Members};
-use predicates_testing::is_described;
+use predicates_tree::{Check, Members};
 use std::alloc::{AllocError, Global};
 use std::fmt;
-use std::process::Abort;
+use tests_support::is_described;
 
 // A file, or a folder with what lies in it.
 #[derive(Drop)]
@@ -117,10 +117,10 @@ fn read_word(alloc: Global, made: &mut Vec<Rule>, word: &str) -> Result<Option<R
 }
 
 // The rule that the words mean, each behind its parts.
-fn read_rule(rt: &impl Abort, alloc: Global, words: &str) -> Option<Rule> {
-    let mut made = Vec::new(alloc);
+fn read_rule(rt: &impl Host, words: &str) -> Option<Rule> {
+    let mut made = Vec::new(rt.alloc());
     for word in words.split(' ') {
-        let Some(rule) = read_word(alloc, &mut made, word).expect(rt, "memory") else {
+        let Some(rule) = read_word(rt.alloc(), &mut made, word).expect(rt, "memory") else {
             return None;
         };
         made.push(rule).expect(rt, "memory");
@@ -130,8 +130,8 @@ fn read_rule(rt: &impl Abort, alloc: Global, words: &str) -> Option<Rule> {
 }
 
 // A folder of files with the sizes.
-fn folder(rt: &impl Abort, alloc: Global, size: u32, sizes: &[u32]) -> Entry {
-    let mut entries = Vec::new(alloc);
+fn folder(rt: &impl Host, size: u32, sizes: &[u32]) -> Entry {
+    let mut entries = Vec::new(rt.alloc());
     for size in sizes {
         entries
             .push(Entry {
@@ -147,34 +147,34 @@ fn folder(rt: &impl Abort, alloc: Global, size: u32, sizes: &[u32]) -> Entry {
 }
 
 // A folder with a file and two folders, of which the second is empty.
-fn root(rt: &impl Abort, alloc: Global) -> Entry {
+fn root(rt: &impl Host) -> Entry {
     let file = Entry {
         size: 30,
         entries: None,
     };
-    let first = folder(rt, alloc, 50, &[20, 30]);
-    let second = folder(rt, alloc, 0, &[]);
+    let first = folder(rt, 50, &[20, 30]);
+    let second = folder(rt, 0, &[]);
     Entry {
         size: 80,
-        entries: Some(vec![in alloc; file, first, second].expect(rt, "memory")),
+        entries: Some(vec![in rt.alloc(); file, first, second].expect(rt, "memory")),
     }
 }
 
 // The lines that say why the rule has its verdict.
-fn why<P: Total<Entry>>(rt: &impl Abort, alloc: Global, rule: &P, entry: &Entry) -> String {
-    match rule.explain(alloc, None, entry).expect(rt, "memory") {
-        Some(case) => render(alloc, &case).expect(rt, "memory"),
-        None => String::new(alloc),
+fn why<P: Total<Entry>>(rt: &impl Host, rule: &P, entry: &Entry) -> String {
+    match rule.explain(rt.alloc(), None, entry).expect(rt, "memory") {
+        Some(case) => render(rt.alloc(), &case).expect(rt, "memory"),
+        None => String::new(rt.alloc()),
     }
 }
 
 // Whether the words are a rule whose case on the root has the lines.
-fn is_explained(rt: &impl Abort, alloc: Global, words: &str, lines: &str) -> bool {
-    let Some(rule) = read_rule(rt, alloc, words) else {
+fn is_explained(rt: &impl Host, words: &str, lines: &str) -> bool {
+    let Some(rule) = read_rule(rt, words) else {
         return false;
     };
-    let root = root(rt, alloc);
-    why(rt, alloc, &rule, &root).as_str() == lines
+    let root = root(rt);
+    why(rt, &rule, &root).as_str() == lines
 }
 
 // Each file of each folder.
@@ -218,12 +218,11 @@ const NONE_LARGE: &str = "\
 
 #[test]
 fn rules_over_members_are_explained(rt: HostRuntime) {
-    let alloc = rt.alloc();
-    assert!(rt; is_explained(&rt, alloc, "25 any 30 or each", TOO_SMALL));
-    assert!(rt; is_explained(&rt, alloc, "30 two", TWO));
-    assert!(rt; is_explained(&rt, alloc, "20 each each", NO_FOLDER));
-    assert!(rt; is_explained(&rt, alloc, "60 any not", NONE_LARGE));
-    assert!(rt; !is_explained(&rt, alloc, "each", ""));
+    assert!(rt; is_explained(&rt, "25 any 30 or each", TOO_SMALL));
+    assert!(rt; is_explained(&rt, "30 two", TWO));
+    assert!(rt; is_explained(&rt, "20 each each", NO_FOLDER));
+    assert!(rt; is_explained(&rt, "60 any not", NONE_LARGE));
+    assert!(rt; !is_explained(&rt, "each", ""));
 }
 
 // The text, and a line for each part.
@@ -234,16 +233,16 @@ item: at_least 2 entries(size >= 1)
 ";
 
 // Whether the words are a rule that describes itself by the lines.
-fn describes(rt: &impl Abort, alloc: Global, words: &str, lines: &str) -> bool {
-    let Some(rule) = read_rule(rt, alloc, words) else {
+fn describes(rt: &impl Host, words: &str, lines: &str) -> bool {
+    let Some(rule) = read_rule(rt, words) else {
         return false;
     };
-    is_described(alloc, &rule, lines).expect(rt, "memory")
+    is_described(rt.alloc(), &rule, lines).expect(rt, "memory")
 }
 
 #[test]
 fn rules_over_members_describe_their_parts(rt: HostRuntime) {
-    assert!(rt; describes(&rt, rt.alloc(), "1 two each", DESCRIBED));
+    assert!(rt; describes(&rt, "1 two each", DESCRIBED));
 }
 
 // It takes at least 25 bytes.
@@ -256,7 +255,7 @@ fn large() -> Rule
 #[test]
 fn check_of_leaf_beside_members(rt: HostRuntime) {
     let alloc = rt.alloc();
-    let folder = folder(&rt, alloc, 50, &[20, 30]);
+    let folder = folder(&rt, 50, &[20, 30]);
 
     let large: Check<TestPredicate<Size>, Entries> = Check::leaf_beside_members(leaf(Size {
         least: 25,
@@ -267,7 +266,7 @@ fn check_of_leaf_beside_members(rt: HostRuntime) {
 #[test]
 fn check_by_of_each(rt: HostRuntime) {
     let alloc = rt.alloc();
-    let folder = folder(&rt, alloc, 50, &[20, 30]);
+    let folder = folder(&rt, 50, &[20, 30]);
 
     let all_large = large().of_each(alloc, Entries).expect(&rt, "memory");
     assert!(rt; !all_large.eval(alloc, &folder).expect(&rt, "memory"));
@@ -276,7 +275,7 @@ fn check_by_of_each(rt: HostRuntime) {
 #[test]
 fn check_by_of_any(rt: HostRuntime) {
     let alloc = rt.alloc();
-    let folder = folder(&rt, alloc, 50, &[20, 30]);
+    let folder = folder(&rt, 50, &[20, 30]);
 
     let some_large = large().of_any(alloc, Entries).expect(&rt, "memory");
     assert!(rt; some_large.eval(alloc, &folder).expect(&rt, "memory"));
@@ -285,7 +284,7 @@ fn check_by_of_any(rt: HostRuntime) {
 #[test]
 fn check_by_of_at_least(rt: HostRuntime) {
     let alloc = rt.alloc();
-    let folder = folder(&rt, alloc, 50, &[20, 30]);
+    let folder = folder(&rt, 50, &[20, 30]);
 
     let two_large = large().of_at_least(alloc, 2, Entries).expect(&rt, "memory");
     assert!(rt; !two_large.eval(alloc, &folder).expect(&rt, "memory"));

@@ -1,13 +1,13 @@
 //! Rules over orders that are read from words at run time.
 ghost use Rattle.std.specs.Prelude.{None, if◌then◌else◌, nat_lt, not};
 
+use crate::tests::made::Host;
 use predicates::Total;
 use predicates::custom::{Test, TestPredicate, leaf};
 use predicates::reflection::render;
-use predicates_dynamic::Check;
+use predicates_tree::Check;
 use std::alloc::{AllocError, Global};
 use std::fmt;
-use std::process::Abort;
 
 // What is ordered.
 #[derive(Debug, Clone, Copy)]
@@ -90,10 +90,10 @@ fn read_word(alloc: Global, made: &mut Vec<Rule>, word: &str) -> Result<Option<R
 }
 
 // The rule that the words mean, each behind its parts, if it is not too deep.
-fn read_rule(rt: &impl Abort, alloc: Global, words: &str) -> Option<Rule> {
-    let mut made = Vec::new(alloc);
+fn read_rule(rt: &impl Host, words: &str) -> Option<Rule> {
+    let mut made = Vec::new(rt.alloc());
     for word in words.split(' ') {
-        let Some(rule) = read_word(alloc, &mut made, word).expect(rt, "memory") else {
+        let Some(rule) = read_word(rt.alloc(), &mut made, word).expect(rt, "memory") else {
             return None;
         };
         made.push(rule).expect(rt, "memory");
@@ -107,19 +107,19 @@ fn read_rule(rt: &impl Abort, alloc: Global, words: &str) -> Option<Rule> {
 }
 
 // The lines that say why the check has its verdict on the order.
-fn why<P: Total<Order>>(rt: &impl Abort, alloc: Global, check: &P, order: &Order) -> String {
-    match check.explain(alloc, None, order).expect(rt, "memory") {
-        Some(case) => render(alloc, &case).expect(rt, "memory"),
-        None => String::new(alloc),
+fn why<P: Total<Order>>(rt: &impl Host, check: &P, order: &Order) -> String {
+    match check.explain(rt.alloc(), None, order).expect(rt, "memory") {
+        Some(case) => render(rt.alloc(), &case).expect(rt, "memory"),
+        None => String::new(rt.alloc()),
     }
 }
 
 // Whether the words are a rule with that case.
-fn is_explained(rt: &impl Abort, alloc: Global, words: &str, order: &Order, lines: &str) -> bool {
-    let Some(rule) = read_rule(rt, alloc, words) else {
+fn is_explained(rt: &impl Host, words: &str, order: &Order, lines: &str) -> bool {
+    let Some(rule) = read_rule(rt, words) else {
         return false;
     };
-    why(rt, alloc, &rule, order).as_str() == lines
+    why(rt, &rule, order).as_str() == lines
 }
 
 #[test]
@@ -137,13 +137,13 @@ fn a_rule_that_was_read_is_explained(rt: HostRuntime) {
         lines: 2,
     };
     let words = "total:50 lines:3 or lines:9 not and";
-    assert!(rt; is_explained(&rt, rt.alloc(), words, &order, lines));
-    assert!(rt; !is_explained(&rt, rt.alloc(), "total:50 and", &order, ""));
+    assert!(rt; is_explained(&rt, words, &order, lines));
+    assert!(rt; !is_explained(&rt, "total:50 and", &order, ""));
 }
 
 // The words of a test that is denied so many times.
-fn denied(rt: &impl Abort, alloc: Global, times: usize) -> String {
-    let mut words = "total:50".to_owned(alloc).expect(rt, "memory");
+fn denied(rt: &impl Host, times: usize) -> String {
+    let mut words = "total:50".to_owned(rt.alloc()).expect(rt, "memory");
     for _ in 0..times {
         words.push_str(" not").expect(rt, "memory");
     }
@@ -152,9 +152,8 @@ fn denied(rt: &impl Abort, alloc: Global, times: usize) -> String {
 
 #[test]
 fn a_rule_that_is_too_deep_is_refused(rt: HostRuntime) {
-    let alloc = rt.alloc();
-    let deepest = denied(&rt, alloc, MAX_DEPTH - 1);
-    assert!(rt; read_rule(&rt, alloc, deepest.as_str()).is_some());
-    let deeper = denied(&rt, alloc, MAX_DEPTH);
-    assert!(rt; read_rule(&rt, alloc, deeper.as_str()).is_none());
+    let deepest = denied(&rt, MAX_DEPTH - 1);
+    assert!(rt; read_rule(&rt, deepest.as_str()).is_some());
+    let deeper = denied(&rt, MAX_DEPTH);
+    assert!(rt; read_rule(&rt, deeper.as_str()).is_none());
 }

@@ -1,5 +1,5 @@
-use predicates_explain::{Exit, RunFault, Word, WordFault};
-use predicates_testing::{are_copied, differ};
+use explain_run::{Exit, RunFault, Word, WordFault};
+use tests_support::{are_copied, differ};
 
 #[test]
 fn faults_ends_and_words(rt: HostRuntime) {

@@ -1,14 +1,14 @@
 //! How often the leaves of a predicate are asked by the filters, which no contract says, and that
 //! no check of words asks a part at each level twice.
 use super::texts_of;
+use explain_run::{TextCheck, filter_lines, filter_with_reasons};
 use predicates::constant::{BooleanPredicate, always, never};
 use predicates::prelude::*;
-use predicates_explain::{TextCheck, filter_lines, filter_with_reasons};
-use predicates_testing::Counting;
 use std::alloc::Global;
 use std::cell::Cell;
 use std::process::Abort;
 use std::rc::Rc;
+use tests_support::Counting;
 
 // An input, how many of its lines are texts, and how many are none.
 const INPUTS: [(&[u8], usize); 4] = [

@@ -1,13 +1,12 @@
 //! The filters over lines: which are written, with their ends, and how many; and what is told of
 //! the others.
 use super::read_check;
+use explain_run::{Filtered, RunFault, filter_lines, filter_with_reasons};
 use predicates::prelude::*;
-use predicates_explain::{Filtered, RunFault, filter_lines, filter_with_reasons};
-use predicates_fakes::FailingWriter;
-use predicates_testing::text;
 use std::alloc::Global;
 use std::io::ErrorKind;
 use std::process::Abort;
+use tests_support::{FailingWriter, text};
 
 // Whether the lines of the input that contain `#`, or those that do not, are these, with the
 // counts.

@@ -1,9 +1,9 @@
 //! Checks of words: policies that are read and asked, each error's text, and the limit of depth.
 use super::{is_shown, read_check, texts_of};
+use explain_run::{MAX_DEPTH, TextCheck, WordsError};
+use explain_words::take_word;
 use predicates::Predicate;
 use predicates::prelude::*;
-use predicates_explain::{MAX_DEPTH, TextCheck, WordsError};
-use predicates_words::take_word;
 use std::alloc::Global;
 use std::process::Abort;
 

@@ -1,14 +1,13 @@
 //! What no contract says: that calls succeed, and where faults come from.
 use super::is_shown;
+use explain_run::{RunFault, explain_one, explain_total, number, run_between};
 use predicates::Total;
 use predicates::boolean::PredicateBooleanExt;
 use predicates::ord::{ge, le, lt};
-use predicates_explain::{RunFault, explain_one, explain_total, number, run_between};
-use predicates_fakes::{Narrow, Slow, Unflushed};
-use predicates_testing::keeps_text;
 use std::alloc::Global;
 use std::io::ErrorKind;
 use std::process::Abort;
+use tests_support::{Narrow, Slow, Unflushed, keeps_text};
 
 /// The block of 7 between 5 and 10.
 pub const SEVEN: &str = "\

@@ -3,7 +3,7 @@ mod faults;
 mod process;
 mod sizes;
 
-use predicates_explain::{MAX_DEPTH, run_command_line};
+use explain_run::{MAX_DEPTH, run_command_line};
 use std::alloc::Global;
 use std::process::Abort;
 

@@ -1,7 +1,7 @@
 use super::read_check;
+use explain_run::run_text;
 use predicates::BoxPredicate;
 use predicates::prelude::*;
-use predicates_explain::run_text;
 use std::alloc::Global;
 use std::process::Abort;
 

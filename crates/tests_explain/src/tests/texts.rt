@@ -1,9 +1,9 @@
 //! Lines of texts, to a writer that passes nothing on, and a deep check.
 use super::read_check;
-use predicates_explain::{RunFault, run_text};
-use predicates_fakes::Unflushed;
+use explain_run::{RunFault, run_text};
 use std::alloc::Global;
 use std::process::Abort;
+use tests_support::Unflushed;
 
 // How a run over the input ends, where the writer passes nothing on.
 fn unflushed(rt: &impl Abort, alloc: Global, mut input: &[u8]) -> Result<bool, RunFault> {

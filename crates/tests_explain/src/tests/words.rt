@@ -1,10 +1,10 @@
 use super::is_shown;
+use explain_run::{TextCheck, Word, WordFault, apply_word, read_word};
 use predicates::Predicate;
 use predicates::reflection::PredicateReflection;
-use predicates_explain::{TextCheck, Word, WordFault, apply_word, read_word};
-use predicates_testing::keeps_text;
 use std::alloc::Global;
 use std::process::Abort;
+use tests_support::keeps_text;
 
 // Whether the token is this word.
 fn reads(rt: &impl Abort, alloc: Global, token: &str, word: Option<Word>) -> bool {

@@ -1,19 +1,34 @@
 //! How often the leaves of a predicate are evaluated, which no contract says.
+
+// How often the leaves of a part with this item are asked in the whole, on an item.
+macro_rules! counts_in {
+    ($rt:ident, $asked:ident, |$part:ident: $seen:ty| $whole:expr, $item:expr) => {
+        if $asked.is_pair {
+            let $part = $asked.both::<$seen>();
+            $asked.alone($rt, $whole, $item)
+        } else {
+            let $part = $asked.leaf::<$seen>();
+            $asked.alone($rt, $whole, $item)
+        }
+    };
+}
+
 mod around;
 mod counting;
 mod reports;
 mod shapes;
 
+use crate::tests::made::Host;
 use around::{Around, Asked};
 use shapes::counts_of;
-use std::alloc::Global;
 use std::cell::Cell;
-use std::process::Abort;
 
 // A predicate, what stands around it, and how often its leaves and that beside it are evaluated: by
 // `eval`; `find_case` of true, of false; `explain` of either, of true, of false; `find_change` of
-// the same; `require`. All hold but the second leaf of each pair and of each list. What is named
-// `and_..` asks a pair under `and` about a part or a view.
+// the same; `require`. All hold but the second leaf of each pair and of each list, what stands
+// around by a name with `_no`, and what is denied. What is named `and_..` asks a pair under `and`
+// about a part or a view, `long_..` about 10,000 members, and `reads_..` counts how often a part is
+// read.
 const ROWS: &str = "\
 leaf alone 1 1 1 1 1 1 1 1 1 1
 function alone 1 1 1 1 1 1 1 1 1 1
@@ -80,12 +95,52 @@ and_of_string alone 2 2 4 2 2 2 2 2 2 4
 and_of_array alone 2 2 4 2 2 2 2 2 2 4
 and_of_object alone 2 2 4 2 2 2 2 2 2 4
 and_of_number alone 2 2 4 2 2 2 2 2 2 4
+after_true_and alone 1 2 1 1 1 1 1 1 1 1
+after_false_and alone 0 0 0 0 0 0 1 1 1 0
+after_true_or alone 0 0 0 0 0 0 1 1 1 0
+after_false_or alone 1 2 1 1 1 1 1 1 1 1
+after_true_either alone 0 0 0 0 0 0 1 1 1 0
+after_false_either alone 1 2 1 1 1 1 1 1 1 1
+right_first alone 1 1 1 1 1 1 1 1 1 1
+own alone 1 1 2 1 1 1 1 1 1 2
+four_by_and alone 4 8 4 4 4 4 4 4 4 4
+four_by_or alone 1 2 1 1 1 1 4 4 4 1
+three_by_xor alone 3 6 3 3 3 3 3 3 3 3
+joins_in_joins alone 3 6 3 3 3 3 4 4 4 3
+negations alone 1 1 1 1 1 1 1 1 1 1
+reads_of alone 1 1 1 1 1 1 1 1 1 1
+reads_of_ref alone 1 1 1 1 1 1 1 1 1 1
+reads_of_field alone 1 1 1 1 1 1 1 1 1 1
+long_each alone 10000 20000 10000 10000 10000 10000 10000 10000 10000 10000
+long_each_denied alone 1 1 2 1 1 1 10000 1 10000 2
+long_any alone 1 2 1 1 1 1 10000 10000 1 1
+long_any_denied alone 10000 10000 20000 10000 10000 10000 10000 10000 10000 20000
+long_two alone 2 4 2 2 2 2 10000 10000 2 2
+two_members alone 2 4 2 2 2 2 10000 10000 10000 2
+long_two_denied alone 9999 9999 19998 9999 9999 9999 10000 9999 10000 19998
+lists_in_joins alone 3 3 6 3 3 3 3 3 3 6
+lists_in_lists alone 5 10 5 5 5 5 5 5 5 5
+all_of_true alone 3 6 3 3 3 3 3 3 3 3
+any_of_true alone 1 2 1 1 1 1 3 3 1 1
+all_of_denied alone 1 1 2 1 1 1 3 1 3 2
+two_rules alone 2 4 2 2 2 2 3 3 3 2
+one_of_five alone 1 2 1 1 1 1 5 5 1 1
+two_of_five alone 3 6 3 3 3 3 5 5 3 3
+three_of_five alone 5 5 10 5 5 5 5 5 5 10
+five_of_five alone 2 2 3 2 2 2 5 2 5 4
+six_of_five alone 0 0 0 0 0 0 0 0 0 0
 leaf not 1 1 1 1 1 1 1 1 1 2
 leaf name 1 1 1 1 1 1 1 1 1 1
 leaf and 2 4 2 2 2 2 2 2 2 2
 leaf or 1 2 1 1 1 1 2 2 2 1
 leaf xor 2 2 4 2 2 2 2 2 2 4
 leaf after_xor 2 2 4 2 2 2 2 2 2 4
+not and 1 1 2 1 1 1 2 2 2 2
+not and_no 1 1 2 1 1 1 2 2 2 2
+not or 2 4 2 2 2 2 2 2 2 2
+not or_no 2 2 4 2 2 2 2 2 2 4
+not xor 2 4 2 2 2 2 2 2 2 2
+not xor_no 2 2 4 2 2 2 2 2 2 4
 function not 1 1 1 1 1 1 1 1 1 2
 function and 2 4 2 2 2 2 2 2 2 2
 function or 1 2 1 1 1 1 2 2 2 1
@@ -123,37 +178,39 @@ fn around_of(name: &str) -> Around {
 }
 
 // Whether the predicate is asked as often as the numbers say.
-fn has_counts(rt: &impl Abort, alloc: Global, name: &str, around: Around, numbers: &str) -> bool {
+fn has_counts(rt: &impl Host, name: &str, around: &str, numbers: &str) -> bool {
     let cell = Cell::new(0);
+    let pair = name.strip_prefix("and_");
+    let denied = around.strip_suffix("_no");
     let asked = Asked {
         cell: &cell,
-        holds: true,
-        around,
-        beside: true,
+        is_pair: pair.is_some(),
+        around: around_of(denied.unwrap_or(around)),
+        beside: denied.is_none(),
     };
-    let Some(counts) = counts_of(rt, alloc, name, asked) else {
+    let Some(counts) = counts_of(rt, pair.unwrap_or(name), asked) else {
         return false;
     };
-    let mut written = String::new(alloc);
+    let mut written = String::new(rt.alloc());
     for count in counts {
         write!(written, " {count}").expect(rt, "memory");
     }
     written.as_str().trim() == numbers
 }
 
-fn is_row_right(rt: &impl Abort, alloc: Global, row: &str) -> bool {
+fn is_row_right(rt: &impl Host, row: &str) -> bool {
     let Some((name, rest)) = row.split_once(' ') else {
         return false;
     };
     let Some((around, numbers)) = rest.split_once(' ') else {
         return false;
     };
-    has_counts(rt, alloc, name, around_of(around), numbers)
+    has_counts(rt, name, around, numbers)
 }
 
 #[test]
 fn rows_of_counts(rt: HostRuntime) {
     for row in ROWS.lines() {
-        assert!(rt; is_row_right(&rt, rt.alloc(), row), "{row}");
+        assert!(rt; is_row_right(&rt, row), "{row}");
     }
 }

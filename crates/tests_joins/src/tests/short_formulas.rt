@@ -1,8 +1,7 @@
 //! The leaves that a case keeps of each short formula, beside those of the reference program.
+use crate::tests::made::Host;
 use predicates_core::static_text::StaticText;
-use predicates_testing::{NumberWord, ReferenceFormula, answer_number, number_formula};
-use std::alloc::Global;
-use std::process::Abort;
+use tests_support::{NumberWord, ReferenceFormula, answer_number, number_formula};
 
 // The item of every formula here.
 const ITEM: i64 = 4;
@@ -21,29 +20,24 @@ fn word(number: u64) -> NumberWord {
 }
 
 // Whether the library explains the formula of the words as the reference program does.
-fn explains(
-    rt: &impl Abort,
-    alloc: Global,
-    words: Vec<NumberWord>,
-    formula: &ReferenceFormula,
-) -> bool {
-    match answer_number(alloc, words, ITEM).expect(rt, "memory") {
-        Some(answers) => answers.explain(alloc, formula).expect(rt, "memory"),
+fn explains(rt: &impl Host, words: Vec<NumberWord>, formula: &ReferenceFormula) -> bool {
+    match answer_number(rt.alloc(), words, ITEM).expect(rt, "memory") {
+        Some(answers) => answers.explain(rt.alloc(), formula).expect(rt, "memory"),
         None => false,
     }
 }
 
 // The same of any words; none where they are no formula.
-fn is_explained(rt: &impl Abort, alloc: Global, words: Vec<NumberWord>) -> Option<bool> {
-    match number_formula(alloc, words.as_slice(), ITEM).expect(rt, "memory") {
-        Some(formula) => Some(explains(rt, alloc, words, &formula)),
+fn is_explained(rt: &impl Host, words: Vec<NumberWord>) -> Option<bool> {
+    match number_formula(rt.alloc(), words.as_slice(), ITEM).expect(rt, "memory") {
+        Some(formula) => Some(explains(rt, words, &formula)),
         None => None,
     }
 }
 
 // The words that the number's digits stand for, the last one first.
-fn words_of(rt: &impl Abort, alloc: Global, number: u64, length: u64) -> Vec<NumberWord> {
-    let mut words = Vec::new(alloc);
+fn words_of(rt: &impl Host, number: u64, length: u64) -> Vec<NumberWord> {
+    let mut words = Vec::new(rt.alloc());
     let mut rest = number;
     for _ in 0..length {
         words.push(word(rest)).expect(rt, "memory");
@@ -54,13 +48,12 @@ fn words_of(rt: &impl Abort, alloc: Global, number: u64, length: u64) -> Vec<Num
 
 #[test]
 fn all_formulas_of_at_most_six_words(rt: HostRuntime) {
-    let alloc = rt.alloc();
     let mut explained = 0_u64;
     let mut all = 1_u64;
     for length in 1..7_u64 {
         all = all.saturating_mul(7);
         for number in 0..all {
-            if let Some(right) = is_explained(&rt, alloc, words_of(&rt, alloc, number, length)) {
+            if let Some(right) = is_explained(&rt, words_of(&rt, number, length)) {
                 assert!(rt; right, "formula {number} of {length} words");
                 explained = explained.saturating_add(1);
             }

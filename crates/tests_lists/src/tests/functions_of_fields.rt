@@ -1,9 +1,8 @@
 //! Functions of the fields of a struct.
+use crate::tests::made::{Host, owned};
 use predicates::boolean::PredicateBooleanExt;
 use predicates::function::function;
-use predicates_testing::{text, verdict};
-use std::alloc::Global;
-use std::process::Abort;
+use tests_support::verdict;
 
 #[derive(Drop)]
 struct Greeting {
@@ -12,15 +11,15 @@ struct Greeting {
 }
 
 // The verdict of two functions; none where it has not just its own case.
-fn greets(rt: &impl Abort, alloc: Global, words: &str, number: i64) -> Option<bool> {
+fn greets(rt: &impl Host, words: &str, number: i64) -> Option<bool> {
     let greeting = Greeting {
-        text: text(alloc, words).expect(rt, "memory"),
+        text: owned(rt, words),
         number,
     };
     let greets = function(|g: &Greeting| g.text.as_str() == "hello").and(function(
         |g: &Greeting| g.number == 42,
     ));
-    verdict(alloc, &greets, &greeting).expect(rt, "memory")
+    verdict(rt.alloc(), &greets, &greeting).expect(rt, "memory")
 }
 
 const GREETINGS: [(&str, i64, bool); 3] = [
@@ -33,7 +32,7 @@ const GREETINGS: [(&str, i64, bool); 3] = [
 fn functions_of_fields(rt: HostRuntime) {
     for (text, number, expected) in GREETINGS {
         assert!(rt;
-            greets(&rt, rt.alloc(), text, number) == Some(expected),
+            greets(&rt, text, number) == Some(expected),
             "{text}, {number}"
         );
     }

@@ -3,12 +3,12 @@ ghost use Rattle.std.specs.Prelude.{◌≡◌, IfOk};
 ghost use Rattle.std.specs.Ordering.{int_cmp};
 ghost use Rattle.predicates_item.specs.Multiset.{ascending, members_of};
 
+use crate::tests::made::{Host, vec_of};
 use predicates::iter::{SameMembersPredicate, same_members};
 use predicates::reflection::render;
 use predicates_core::PredicateChange;
-use predicates_testing::{differ, is_described, verdict};
 use std::alloc::{AllocError, Global};
-use std::process::Abort;
+use tests_support::{differ, is_described, verdict};
 
 // What a caller can prove of the kept members.
 fn of_vec(alloc: Global, members: Vec<i64>) -> Result<SameMembersPredicate<i64>, AllocError>
@@ -19,8 +19,7 @@ fn of_vec(alloc: Global, members: Vec<i64>) -> Result<SameMembersPredicate<i64>,
 
 // Whether the case for the truth has these lines, and that of the change as well.
 fn has_lines<P: PredicateChange<Vec<i64>>>(
-    rt: &impl Abort,
-    alloc: Global,
+    rt: &impl Host,
     predicate: &P,
     list: &Vec<i64>,
     truth: bool,
@@ -28,14 +27,17 @@ fn has_lines<P: PredicateChange<Vec<i64>>>(
 ) -> bool
     requires { P.lawful predicate.now }
 {
-    let case = predicate.find_case(alloc, truth, list).expect(rt, "memory");
+    let case = predicate
+        .find_case(rt.alloc(), truth, list)
+        .expect(rt, "memory");
     let change = predicate
-        .find_change(alloc, Some(truth), list)
+        .find_change(rt.alloc(), Some(truth), list)
         .expect(rt, "memory");
     match (case, change) {
         (Some(case), Some(change)) => {
-            let rendered = render(alloc, &case).expect(rt, "memory");
-            rendered.as_str() == lines && render(alloc, &change).expect(rt, "memory") == rendered
+            let rendered = render(rt.alloc(), &case).expect(rt, "memory");
+            rendered.as_str() == lines
+                && render(rt.alloc(), &change).expect(rt, "memory") == rendered
         }
         _ => false,
     }
@@ -56,34 +58,28 @@ const ROWS: [Row; 9] = [
     (&[7, 7, 7, 8], &[8, 8, 7, 9, 8], "[7, 7]", "[8, 8, 9]"),
 ];
 
-fn is_right(rt: &impl Abort, alloc: Global, row: Row) -> bool {
+fn is_right(rt: &impl Host, row: Row) -> bool {
     let (values, list, missing, extra) = row;
-    let same = of_vec(alloc, Vec::from_slice(alloc, values).expect(rt, "memory")).expect(
-        rt, "memory",
-    );
-    let list = Vec::from_slice(alloc, list).expect(rt, "memory");
+    let same = of_vec(rt.alloc(), vec_of(rt, values)).expect(rt, "memory");
+    let list = vec_of(rt, list);
     let truth = missing == "[]" && extra == "[]";
-    let lines = format!(in alloc;
+    let lines = format!(in rt.alloc();
         "var == values in any order = {truth}\n  - missing: {missing}\n  - extra: {extra}\n"
     ).expect(rt, "memory");
-    let found = verdict(alloc, &same, &list).expect(rt, "memory");
-    found == Some(truth) && has_lines(rt, alloc, &same, &list, truth, lines.as_str())
+    let found = verdict(rt.alloc(), &same, &list).expect(rt, "memory");
+    found == Some(truth) && has_lines(rt, &same, &list, truth, lines.as_str())
 }
 
 #[test]
 fn what_is_missing_and_what_is_extra(rt: HostRuntime) {
     for row in ROWS {
-        assert!(rt; is_right(&rt, rt.alloc(), row), "{:?} {:?}", row.0, row.1);
+        assert!(rt; is_right(&rt, row), "{:?} {:?}", row.0, row.1);
     }
 }
 
 #[test]
 fn members_in_ascending_order(rt: HostRuntime) {
-    let same = of_vec(
-        rt.alloc(),
-        Vec::from_slice(rt.alloc(), &[3, 1, 3]).expect(&rt, "memory"),
-    )
-    .expect(&rt, "memory");
+    let same = of_vec(rt.alloc(), vec_of(&rt, &[3, 1, 3])).expect(&rt, "memory");
     let lines = "var == values in any order\nvalues=[1, 3, 3]\n";
     assert!(rt; is_described(rt.alloc(), &same, lines).expect(&rt, "memory"));
     let other = same_members(rt.alloc(), [1i64, 3]).expect(&rt, "memory");
@@ -91,8 +87,8 @@ fn members_in_ascending_order(rt: HostRuntime) {
 }
 
 // The numbers below 101, in another order.
-fn reordered(rt: &impl Abort, alloc: Global) -> Vec<u32> {
-    let mut list = Vec::new(alloc);
+fn reordered(rt: &impl Host) -> Vec<u32> {
+    let mut list = Vec::new(rt.alloc());
     for number in 0..101u32 {
         list.push(number * 7 % 101).expect(rt, "memory");
     }
@@ -103,7 +99,7 @@ fn reordered(rt: &impl Abort, alloc: Global) -> Vec<u32> {
 #[test]
 fn many_members(rt: HostRuntime) {
     let same = same_members(rt.alloc(), 0..101u32).expect(&rt, "memory");
-    let mut list = reordered(&rt, rt.alloc());
+    let mut list = reordered(&rt);
     assert_eq!(rt;
         verdict(rt.alloc(), &same, &list).expect(&rt, "memory"),
         Some(true)

@@ -1,55 +1,30 @@
 //! Memberships among texts.
 use super::asked::verdict_of;
+use crate::tests::made::{Host, owned};
 use predicates::iter::{in_hash, in_iter};
-use predicates_testing::text;
-use std::alloc::Global;
-use std::process::Abort;
 
-fn letters(rt: &impl Abort, alloc: Global) -> Vec<String> {
-    let mut letters = Vec::new(alloc);
+fn letters(rt: &impl Host) -> Vec<String> {
+    let mut letters = Vec::new(rt.alloc());
     for letter in ["a", "c", "e"] {
-        letters
-            .push(text(alloc, letter).expect(rt, "memory"))
-            .expect(rt, "memory");
+        letters.push(owned(rt, letter)).expect(rt, "memory");
     }
     letters
 }
 
 // The verdict of the list, of the sorted list and of the set of the letters; none where a verdict
 // has not just its own case.
-fn is_listed(rt: &impl Abort, alloc: Global, item: &str) -> Option<bool> {
-    let listed = in_iter(alloc, letters(rt, alloc)).expect(rt, "memory");
-    verdict_of(rt, alloc, listed, text(alloc, item).expect(rt, "memory"))
-}
-
-fn is_sorted(rt: &impl Abort, alloc: Global, item: &str) -> Option<bool> {
-    let sorted = in_iter(alloc, letters(rt, alloc))
-        .expect(rt, "memory")
-        .sort()
-        .expect(rt, "memory");
-    verdict_of(rt, alloc, sorted, text(alloc, item).expect(rt, "memory"))
-}
-
-fn is_hashed(rt: &impl Abort, alloc: Global, item: &str) -> Option<bool> {
-    let hashed = in_hash(alloc, letters(rt, alloc)).expect(rt, "memory");
-    verdict_of(rt, alloc, hashed, text(alloc, item).expect(rt, "memory"))
-}
-
-// Whether each of the three has this verdict.
-fn are_verdicts(rt: &impl Abort, alloc: Global, item: &str, verdict: bool) -> [bool; 3] {
-    [
-        is_listed(rt, alloc, item) == Some(verdict),
-        is_sorted(rt, alloc, item) == Some(verdict),
-        is_hashed(rt, alloc, item) == Some(verdict),
-    ]
+fn verdicts(rt: &impl Host, item: &str) -> [Option<bool>; 3] {
+    let listed = in_iter(rt.alloc(), letters(rt)).expect(rt, "memory");
+    let of_list = verdict_of(rt, listed, owned(rt, item));
+    let listed = in_iter(rt.alloc(), letters(rt)).expect(rt, "memory");
+    let of_sorted = verdict_of(rt, listed.sort().expect(rt, "memory"), owned(rt, item));
+    let hashed = in_hash(rt.alloc(), letters(rt)).expect(rt, "memory");
+    [of_list, of_sorted, verdict_of(rt, hashed, owned(rt, item))]
 }
 
 #[test]
 fn letters_among_a_c_e(rt: HostRuntime) {
     for (item, verdict) in [("a", true), ("b", false), ("c", true)] {
-        assert!(rt;
-            are_verdicts(&rt, rt.alloc(), item, verdict) == [true; 3],
-            "{item}"
-        );
+        assert!(rt; verdicts(&rt, item) == [Some(verdict); 3], "{item}");
     }
 }

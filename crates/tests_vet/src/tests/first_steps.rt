@@ -1,8 +1,8 @@
 //! The first part of the page on `vet`, typed as it stands there.
-use predicates_fakes::Process;
-use predicates_vet_program::run_program;
 use std::alloc::Global;
 use std::process::Abort;
+use tests_support::Process;
+use vet_program::run_program;
 
 // What is typed, behind `$ `, and what is written then.
 const STEPS: [&str; 5] = [

@@ -1,8 +1,8 @@
 //! The program, where it writes what another program reads.
-use predicates_fakes::Process;
-use predicates_vet_program::run_program;
 use std::alloc::Global;
 use std::process::Abort;
+use tests_support::Process;
+use vet_program::run_program;
 
 // Words, and the status, standard output and standard error.
 type Row = (&'static [&'static [u8]], u8, &'static str, &'static str);

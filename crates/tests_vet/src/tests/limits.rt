@@ -9,10 +9,10 @@ mod odd_process;
 mod outputs;
 mod rules;
 
-use predicates_fakes::Process;
-use predicates_vet_program::run_program;
 use std::alloc::Global;
 use std::process::Abort;
+use tests_support::Process;
+use vet_program::run_program;
 
 // What opens a level, so often, then the innermost, and what closes a level, so often.
 fn nested(

@@ -1,9 +1,9 @@
 //! The whole program, over a process of the test's.
-use predicates_fakes::{Closed, Process};
-use predicates_vet_program::run_program;
 use std::alloc::Global;
 use std::io::ErrorKind;
 use std::process::Abort;
+use tests_support::{Closed, Process};
+use vet_program::run_program;
 
 // Words, the rules, an input and the error at its end, the output that fails, and the status,
 // standard output and standard error.

@@ -2,11 +2,11 @@
 //! `tick` milliseconds: the first is before the inputs are opened, and there is one for each read.
 //! Standard input gives a byte a read, and a file all that it has; both are read at their end once
 //! more, and twice where the last line has no line feed.
-use predicates_fakes::{Closed, Process};
-use predicates_vet_program::run_program;
 use std::alloc::Global;
 use std::io::ErrorKind;
 use std::process::Abort;
+use tests_support::{Closed, Process};
+use vet_program::run_program;
 
 // Words, the tick, what the file of standard input has, where it is one, standard input, and
 // standard error.

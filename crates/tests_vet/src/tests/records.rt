@@ -3,12 +3,11 @@ mod copied;
 mod faults;
 mod lines;
 
-use predicates_fakes::Slow;
-use predicates_lines::{MAX_LINE, RunFault, write_bytes};
-use predicates_records::{Position, TakenRecord, next_record};
 use std::alloc::Global;
 use std::io::BufRead;
 use std::process::Abort;
+use streams::{MAX_LINE, Position, RunFault, TakenRecord, next_record, write_bytes};
+use tests_support::Slow;
 
 // Takes one record, and writes it with `|` behind it; `#` for one that is too long, `[` for an
 // array that the input does not close, and `.` at the end, which is the answer.

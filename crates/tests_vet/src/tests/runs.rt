@@ -3,6 +3,7 @@ mod combined;
 mod conditions;
 mod faults;
 mod implications;
+mod lists;
 mod malformed_records;
 mod malformed_rules;
 mod numbers;
@@ -13,12 +14,10 @@ mod reference;
 mod reports;
 mod thresholds;
 
-use predicates_vet::settings::{Report, Settings};
-use predicates_vet::{
-    Counts, Job, ReadChecksError, RunFault, Streams, Tally, read_checks, run_records,
-};
 use std::alloc::Global;
 use std::process::Abort;
+use vet_run::settings::{Report, Settings};
+use vet_run::{Counts, Job, ReadChecksError, RunFault, Streams, Tally, read_checks, run_records};
 
 // What a run writes, its messages, and how it ends.
 type Run = (Vec<u8>, Vec<u8>, Result<Counts, RunFault>);
@@ -107,267 +106,149 @@ fn writes_block<'a>(
     writes(rt, alloc, expected)
 }
 
-// Whether a run with this report writes each block for its rule and record.
-fn all_written(rt: &impl Abort, alloc: Global, report: Report, rows: &[(&str, &[u8], &[u8])]) {
-    for (rule, record, block) in rows {
-        let told = writes_block(rt, alloc, report, rule, record, block);
-        assert!(rt; told, "{rule}");
+// Whether a run by the rule passes the value, a line, where it holds, and not where it does not.
+fn passes(rt: &impl Abort, alloc: Global, rule: &str, value: &str, holds: bool) -> bool {
+    let line = format!(in alloc; "{value}\n").expect(rt, "memory");
+    let (kept, failed) = if holds { (line.as_str(), 0) } else { ("", 1) };
+    let expected = Expected {
+        report: Report::Lines(true),
+        id: None,
+        rules: rule,
+        records: line.as_bytes(),
+        output: kept.as_bytes(),
+        counts: (1, failed, 0),
+    };
+    writes(rt, alloc, expected)
+}
+
+// The block of which a row has these lines.
+fn block_of(rt: &impl Abort, alloc: Global, rule: &str, lines: &str) -> String {
+    let block = match rule.split_once(": ") {
+        _ if lines.is_empty() => String::from_str(alloc, ""),
+        Some((name, rule)) if !lines.starts_with("record ") => format!(in alloc;
+            "record 1: false\n{name} = false\n  rule: {rule} = false\n{lines}\n"
+        ),
+        _ => format!(in alloc; "{lines}\n"),
+    };
+    block.expect(rt, "memory")
+}
+
+// Whether a run with this report writes the block of the row.
+fn is_written(rt: &impl Abort, alloc: Global, report: Report, row: &str) -> bool {
+    let (head, lines) = row.split_once('\n').unwrap_or((row, ""));
+    let Some((rule, record)) = head.split_once(" <- ") else {
+        return false;
+    };
+    let block = block_of(rt, alloc, rule, lines.strip_suffix('\n').unwrap_or(lines));
+    writes_block(rt, alloc, report, rule, record.as_bytes(), block.as_bytes())
+}
+
+// Whether it does so for each row: behind `> ` a rule and a record with ` <- ` between them, and
+// below it the lines of the block that follow that of the rule, or the whole block, where the rule
+// is printed otherwise than written; none where the record keeps the rule.
+fn all_written(rt: &impl Abort, alloc: Global, report: Report, rows: &str) {
+    for row in rows.split("\n> ") {
+        let is_right = row.is_empty() || is_written(rt, alloc, report, row);
+        assert!(rt; is_right, "{report:?} {row}");
     }
 }
 
-// The same, with a report of its own for each.
-fn all_reported(rt: &impl Abort, alloc: Global, rows: &[(Report, &str, &[u8], &[u8])]) {
-    for (report, rule, record, block) in rows {
-        let told = writes_block(rt, alloc, *report, rule, record, block);
-        assert!(rt; told, "{report:?} {rule}");
-    }
-}
-
-// A rule, a record, and the lines below the label of its block, or nothing where the record keeps
-// it.
-const BLOCKS_OF_VALUES: [(&str, &[u8], &[u8]); 15] = [
-    ("a: /x == 1", b"{\"x\": 1}", b""),
-    (
-        "a: /x == 1",
-        b"{\"x\": 2}",
-        b"record 1: false\na = false\n  rule: /x == 1 = false\n    - found: 2\n",
-    ),
-    (
-        "a: /x != 1",
-        b"{}",
-        b"record 1: false\na = false\n  rule: /x != 1 = false\n    - error: nothing at /x\n",
-    ),
-    ("a: /x <= -2", b"{\"x\": -2}", b""),
-    (
-        "a: /x > 18446744073709551614",
-        b"{\"x\": 18446744073709551615}",
-        b"",
-    ),
-    (
-        "a: /x < 3",
-        b"{\"x\": true}",
-        b"\
-record 1: false
-a = false
-  rule: /x < 3 = false
+const BLOCKS_OF_VALUES: &str = r#"
+> a: /x == 1 <- {"x": 1}
+> a: /x == 1 <- {"x": 2}
+    - found: 2
+> a: /x != 1 <- {}
+    - error: nothing at /x
+> a: /x <= -2 <- {"x": -2}
+> a: /x > 18446744073709551614 <- {"x": 18446744073709551615}
+> a: /x < 3 <- {"x": true}
     - found: true
     - error: not a number
-",
-    ),
-    (
-        "a: /x != null",
-        b"{\"x\": null}",
-        b"record 1: false\na = false\n  rule: /x != null = false\n    - found: null\n",
-    ),
-    (
-        "a: /x == true",
-        b"{\"x\": \"y\"}",
-        b"\
-record 1: false
-a = false
-  rule: /x == true = false
-    - found: \"y\"
+> a: /x != null <- {"x": null}
+    - found: null
+> a: /x == true <- {"x": "y"}
+    - found: "y"
     - error: not true or false
-",
-    ),
-    ("a: / contains \"\\\"\"", b"\"q\\\"\"", b""),
-    (
-        "a: / ends_with \"b\"",
-        b"\"ba\"",
-        b"record 1: false\na = false\n  rule: / ends_with \"b\" = false\n    - found: \"ba\"\n",
-    ),
-    ("a: / is_empty", b"[]", b""),
-    (
-        "a: / is_empty",
-        b"4",
-        b"\
-record 1: false
-a = false
-  rule: / is_empty = false
+> a: / contains "\"" <- "q\""
+> a: / ends_with "b" <- "ba"
+    - found: "ba"
+> a: / is_empty <- []
+> a: / is_empty <- 4
     - found: 4
     - error: not a string, an array or an object
-",
-    ),
-    (
-        "a: / in [1, \"b\", null]",
-        b"\"c\"",
-        b"record 1: false\na = false\n  rule: / in [1, \"b\", null] = false\n    - found: \"c\"\n",
-    ),
-    (
-        "a: not /x missing",
-        b"{}",
-        b"\
-record 1: false
-a = false
-  rule: not /x missing = false
+> a: / in [1, "b", null] <- "c"
+    - found: "c"
+> a: not /x missing <- {}
     predicate: /x missing = true
-",
-    ),
-    (
-        "a: / < 3 xor / > 1",
-        b"2",
-        b"\
-record 1: false
-a = false
-  rule: / < 3 xor / > 1 = false
+> a: / < 3 xor / > 1 <- 2
     part: / < 3 = true
       - found: 2
     part: / > 1 = true
       - found: 2
-",
-    ),
-];
+"#;
 
-const BLOCKS_OF_LISTS: [(&str, &[u8], &[u8]); 9] = [
-    (
-        "a: any / (/ == 1)",
-        b"[]",
-        b"record 1: false\na = false\n  rule: any / (/ == 1) = false\n    - len: 0\n",
-    ),
-    (
-        "a: each / (/ < 3)",
-        b"{\"b\": 4, \"a\": 1, \"c\": 5}",
-        b"\
-record 1: false
-a = false
-  rule: each / (/ < 3) = false
+const BLOCKS_OF_LISTS: &str = r#"
+> a: any / (/ == 1) <- []
+    - len: 0
+> a: each / (/ < 3) <- {"b": 4, "a": 1, "c": 5}
     item: / < 3 = false
       - found: 4
       - index: 1
-",
-    ),
-    (
-        "a: any / (/ == 1)",
-        b"{\"b\": 3, \"a\": 2}",
-        b"\
-record 1: false
-a = false
-  rule: any / (/ == 1) = false
+> a: any / (/ == 1) <- {"b": 3, "a": 2}
     item: / == 1 = false
       - found: 2
     item: / == 1 = false
       - found: 3
-",
-    ),
-    (
-        "a: any /l (/x == 1)",
-        b"{\"l\": {\"b\": {\"x\": 1}, \"a\": 0}}",
-        b"",
-    ),
-    ("a: each / (/ == 1)", b"{}", b""),
-    (
-        "a: any / (/ == 1)",
-        b"{}",
-        b"record 1: false\na = false\n  rule: any / (/ == 1) = false\n    - len: 0\n",
-    ),
-    (
-        "a: each /l (any / (/ == 1))",
-        b"{\"l\": {\"b\": [1], \"c\": {\"y\": 3, \"x\": 2}, \"a\": {\"x\": 1}}}",
-        b"\
-record 1: false
-a = false
-  rule: each /l (any / (/ == 1)) = false
+> a: any /l (/x == 1) <- {"l": {"b": {"x": 1}, "a": 0}}
+> a: each / (/ == 1) <- {}
+> a: any / (/ == 1) <- {}
+    - len: 0
+> a: each /l (any / (/ == 1)) <- {"l": {"b": [1], "c": {"y": 3, "x": 2}, "a": {"x": 1}}}
     item: any / (/ == 1) = false
       - index: 2
       item: / == 1 = false
         - found: 2
       item: / == 1 = false
         - found: 3
-",
-    ),
-    (
-        "a: each / (each / (/ < 3))",
-        b"[{\"b\": 4, \"a\": 1}]",
-        b"\
-record 1: false
-a = false
-  rule: each / (each / (/ < 3)) = false
+> a: each / (each / (/ < 3)) <- [{"b": 4, "a": 1}]
     item: each / (/ < 3) = false
       item: / < 3 = false
         - found: 4
         - index: 1
-",
-    ),
-    (
-        "a: each / (/ == 1)",
-        b"1",
-        b"\
-record 1: false
-a = false
-  rule: each / (/ == 1) = false
+> a: each / (/ == 1) <- 1
     - found: 1
     - error: not an array or an object
-",
-    ),
-];
+"#;
 
 #[test]
 fn blocks_of_records(rt: HostRuntime) {
-    all_written(&rt, rt.alloc(), Report::First, &BLOCKS_OF_VALUES);
-    all_written(&rt, rt.alloc(), Report::First, &BLOCKS_OF_LISTS)
+    all_written(&rt, rt.alloc(), Report::First, BLOCKS_OF_VALUES);
+    all_written(&rt, rt.alloc(), Report::First, BLOCKS_OF_LISTS)
 }
 
-// A rule, a record, and the block of what would have to change in the rule.
-const CHANGES: [(&str, &[u8], &[u8]); 13] = [
-    ("a: / == 1", b"1", b""),
-    (
-        "a: /x == 1 and /y == 2 and /z == 3",
-        b"{\"x\": 0, \"y\": 2, \"z\": 0}",
-        b"\
-record 1: false
-a = false
-  rule: /x == 1 and /y == 2 and /z == 3 = false
+// What would have to change in the rule.
+const CHANGES: &str = r#"
+> a: / == 1 <- 1
+> a: /x == 1 and /y == 2 and /z == 3 <- {"x": 0, "y": 2, "z": 0}
     part: /x == 1 = false
       - found: 0
       - index: 0
     part: /z == 3 = false
       - found: 0
       - index: 2
-",
-    ),
-    (
-        "a: / == 1 or / == 2",
-        b"3",
-        b"\
-record 1: false
-a = false
-  rule: / == 1 or / == 2 = false
+> a: / == 1 or / == 2 <- 3
     part: / == 1 = false
       - found: 3
       - index: 0
-",
-    ),
-    (
-        "a: / < 3 xor / > 1",
-        b"2",
-        b"\
-record 1: false
-a = false
-  rule: / < 3 xor / > 1 = false
+> a: / < 3 xor / > 1 <- 2
     part: / < 3 = true
       - found: 2
-",
-    ),
-    (
-        "a: not (/x == 1 and /y == 2)",
-        b"{\"x\": 1, \"y\": 2}",
-        b"\
-record 1: false
-a = false
-  rule: not (/x == 1 and /y == 2) = false
+> a: not (/x == 1 and /y == 2) <- {"x": 1, "y": 2}
     predicate: /x == 1 and /y == 2 = true
       part: /x == 1 = true
         - found: 1
         - index: 0
-",
-    ),
-    (
-        "a: not (/x == 1 or /y == 2 or /x == 3)",
-        b"{\"x\": 1, \"y\": 2}",
-        b"\
-record 1: false
-a = false
-  rule: not (/x == 1 or /y == 2 or /x == 3) = false
+> a: not (/x == 1 or /y == 2 or /x == 3) <- {"x": 1, "y": 2}
     predicate: /x == 1 or /y == 2 or /x == 3 = true
       part: /x == 1 = true
         - found: 1
@@ -375,93 +256,40 @@ a = false
       part: /y == 2 = true
         - found: 2
         - index: 1
-",
-    ),
-    (
-        "a: each / (/ < 3)",
-        b"[1, 4, 5]",
-        b"\
-record 1: false
-a = false
-  rule: each / (/ < 3) = false
+> a: each / (/ < 3) <- [1, 4, 5]
     item: / < 3 = false
       - found: 4
       - index: 1
     item: / < 3 = false
       - found: 5
       - index: 2
-",
-    ),
-    (
-        "a: any / (/ == 1)",
-        b"[2, 3]",
-        b"\
-record 1: false
-a = false
-  rule: any / (/ == 1) = false
+> a: any / (/ == 1) <- [2, 3]
     item: / == 1 = false
       - found: 2
       - index: 0
-",
-    ),
-    (
-        "a: any / (/ == 1)",
-        b"[]",
-        b"record 1: false\na = false\n  rule: any / (/ == 1) = false\n    - len: 0\n",
-    ),
-    (
-        "a: each /l (/ < 3)",
-        b"{}",
-        b"\
-record 1: false
-a = false
-  rule: each /l (/ < 3) = false
+> a: any / (/ == 1) <- []
+    - len: 0
+> a: each /l (/ < 3) <- {}
     - error: nothing at /l
-",
-    ),
-    (
-        "a: each / (/ < 3)",
-        b"{\"c\": 5, \"b\": 4, \"a\": 1}",
-        b"\
-record 1: false
-a = false
-  rule: each / (/ < 3) = false
+> a: each / (/ < 3) <- {"c": 5, "b": 4, "a": 1}
     item: / < 3 = false
       - found: 4
       - index: 1
     item: / < 3 = false
       - found: 5
       - index: 2
-",
-    ),
-    (
-        "a: any / (/ == 1)",
-        b"{\"b\": 3, \"a\": 2}",
-        b"\
-record 1: false
-a = false
-  rule: any / (/ == 1) = false
+> a: any / (/ == 1) <- {"b": 3, "a": 2}
     item: / == 1 = false
       - found: 2
       - index: 0
-",
-    ),
-    (
-        "a: each /l (/ < 3)",
-        b"{\"l\": 4}",
-        b"\
-record 1: false
-a = false
-  rule: each /l (/ < 3) = false
+> a: each /l (/ < 3) <- {"l": 4}
     - found: 4
     - error: not an array or an object
-",
-    ),
-];
+"#;
 
 #[test]
 fn changes_of_records(rt: HostRuntime) {
-    all_written(&rt, rt.alloc(), Report::Change, &CHANGES)
+    all_written(&rt, rt.alloc(), Report::Change, CHANGES)
 }
 
 // The records, those that break the rule, those that keep it, and the counts.

@@ -3,11 +3,11 @@ use super::render_failures;
 use predicates::check::Expectation;
 use predicates::path::{FileType, PathFault};
 use predicates::prelude::*;
-use predicates_testing::new_folder;
 use std::os::unix::fs::symlink;
 use std::process::Abort;
 use std::rt::{Env, Files};
 use std::{fs, io};
+use tests_support::new_folder;
 
 fn fill<R: AllocGlobal + Files>(rt: &R, folder: &str) -> io::Result<()> {
     let alloc = rt.alloc();
@@ -84,7 +84,7 @@ fn contents<R: Abort + AllocGlobal + Files>(rt: &R, folder: &str) -> String {
 
 // The folder, which is removed by now, and the failures of its kinds and of its contents.
 fn check_folder<R: Abort + AllocGlobal + Env + Files>(rt: &R) -> [String; 3] {
-    let folder = new_folder(rt, "predicates_check").expect(rt, "files");
+    let folder = new_folder(rt, "predicates_require").expect(rt, "files");
     fill(rt, folder.as_str()).expect(rt, "files");
     let found = kinds(rt, folder.as_str());
     let read = contents(rt, folder.as_str());

@@ -1,15 +1,14 @@
 //! Rules over fields of different types, in one list.
+use crate::tests::made::{Host, owned};
 use predicates::check::Unmet;
-use predicates_testing::text;
-use predicates_uses::{Booking, allow_booking};
 use std::alloc::Global;
-use std::process::Abort;
+use tests_uses::{Booking, allow_booking};
 
 // A booking of so many guests named Ada.
-fn booking(rt: &impl Abort, alloc: Global, guests: u8, seat: Option<u32>, price: u64) -> Booking {
-    let mut names = Vec::new(alloc);
+fn booking(rt: &impl Host, guests: u8, seat: Option<u32>, price: u64) -> Booking {
+    let mut names = Vec::new(rt.alloc());
     for _ in 0..guests {
-        let name = text(alloc, "Ada").expect(rt, "memory");
+        let name = owned(rt, "Ada");
         names.push(name).expect(rt, "memory");
     }
     Booking {
@@ -67,10 +66,10 @@ fn is_rejected(alloc: Global, booking: &Booking, lines: &str) -> bool {
 #[test]
 fn the_rules_allow_one_booking_and_reject_three(rt: HostRuntime) {
     let alloc = rt.alloc();
-    let allowed = booking(&rt, alloc, 2, Some(12), 100);
+    let allowed = booking(&rt, 2, Some(12), 100);
     assert!(rt; allow_booking(alloc, &allowed).is_ok());
     for (guests, seat, price, lines) in REASONS {
-        let rejected = booking(&rt, alloc, guests, seat, price);
+        let rejected = booking(&rt, guests, seat, price);
         assert!(rt; is_rejected(alloc, &rejected, lines), "{lines}");
     }
 }

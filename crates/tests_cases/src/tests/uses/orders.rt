@@ -1,37 +1,36 @@
 //! The policy over an order, and what it says of four that it does not allow.
+use crate::tests::made::{Host, owned};
 use predicates::check::Unmet;
-use predicates_uses::{Line, Order, allow_order};
 use std::alloc::Global;
 use std::collections::BTreeMap;
-use std::process::Abort;
+use tests_uses::{Line, Order, allow_order};
 
 // An order of two lines, of which the second has the quantity.
 fn order(
-    rt: &impl Abort,
-    alloc: Global,
+    rt: &impl Host,
     customer: &str,
     quantity: u32,
     discount: Option<u32>,
     channel: Option<&str>,
 ) -> Order {
-    let mut lines = Vec::new(alloc);
+    let mut lines = Vec::new(rt.alloc());
     for (item, quantity) in [("pen", 2), ("ink", quantity)] {
         lines
             .push(Line {
-                item: String::from_str(alloc, item).expect(rt, "memory"),
+                item: owned(rt, item),
                 quantity,
             })
             .expect(rt, "memory");
     }
-    let mut notes = BTreeMap::new(alloc);
+    let mut notes = BTreeMap::new(rt.alloc());
     if let Some(channel) = channel {
-        let key = String::from_str(alloc, "channel").expect(rt, "memory");
-        let channel = String::from_str(alloc, channel).expect(rt, "memory");
+        let key = owned(rt, "channel");
+        let channel = owned(rt, channel);
         let replaced: Result<_, _> = notes.insert(key, channel);
         replaced.expect(rt, "memory");
     }
     Order {
-        customer: String::from_str(alloc, customer).expect(rt, "memory"),
+        customer: owned(rt, customer),
         lines,
         discount,
         notes,
@@ -111,10 +110,10 @@ fn is_rejected(alloc: Global, order: &Order, lines: &str) -> bool {
 #[test]
 fn the_policy_allows_one_order_and_rejects_four(rt: HostRuntime) {
     let alloc = rt.alloc();
-    let allowed = order(&rt, alloc, "Ada", 1, None, Some("web/de"));
+    let allowed = order(&rt, "Ada", 1, None, Some("web/de"));
     assert!(rt; allow_order(alloc, &allowed).is_ok());
     for (customer, quantity, discount, channel, lines) in REASONS {
-        let rejected = order(&rt, alloc, customer, quantity, discount, channel);
+        let rejected = order(&rt, customer, quantity, discount, channel);
         assert!(rt; is_rejected(alloc, &rejected, lines), "{lines}");
     }
 }

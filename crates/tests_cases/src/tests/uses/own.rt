@@ -1,82 +1,61 @@
 //! Custom predicates: a leaf, combinators and an adapter.
 use super::has_lines;
+use crate::tests::made::{Host, describes, explains};
 use predicates::custom::{Join, Operator, bare_case, detailed_leaf, join_case, leaf, not_case};
 use predicates::iter::InPredicate;
 use predicates::ord::OrdPredicate;
 use predicates::prelude::*;
-use predicates_testing::{describe, explains, is_described, render_verdict};
-use predicates_uses::{DivisibleBy, Either, IsTheAnswer, MultipleOf, RightFirst, is_known};
-use std::alloc::Global;
-use std::process::Abort;
+use tests_support::{describe, render_verdict};
+use tests_uses::{DivisibleBy, Either, IsTheAnswer, MultipleOf, RightFirst, is_known};
 
 // Writes the description, and the case of the verdict on 42 and on 41.
-fn append_row<P: Predicate<u32>>(rt: &impl Abort, alloc: Global, out: &mut String, predicate: &P)
+fn append_row<P: Predicate<u32>>(rt: &impl Host, out: &mut String, predicate: &P)
     requires { P.lawful predicate.now }
 {
-    describe(alloc, out, predicate).expect(rt, "memory");
-    render_verdict(alloc, out, predicate, &42).expect(rt, "memory");
-    render_verdict(alloc, out, predicate, &41).expect(rt, "memory")
+    describe(rt.alloc(), out, predicate).expect(rt, "memory");
+    render_verdict(rt.alloc(), out, predicate, &42).expect(rt, "memory");
+    render_verdict(rt.alloc(), out, predicate, &41).expect(rt, "memory")
 }
 
 // Whether these are all that it writes.
-fn has_row<P: Predicate<u32> + Drop>(
-    rt: &impl Abort,
-    alloc: Global,
-    predicate: P,
-    lines: &str,
-) -> bool
+fn has_row<P: Predicate<u32> + Drop>(rt: &impl Host, predicate: P, lines: &str) -> bool
     requires { P.lawful predicate }
 {
-    let mut out = String::new(alloc);
-    append_row(rt, alloc, &mut out, &predicate);
+    let mut out = String::new(rt.alloc());
+    append_row(rt, &mut out, &predicate);
     out.as_str() == lines
-}
-
-// Whether the leaf, or a list beside it, is explained by the lines.
-fn explains_leaf_or_list(rt: &impl Abort, alloc: Global, number: u32, lines: &str) -> bool {
-    let either = IsTheAnswer.or(predicate::in_iter(alloc, [41u32, 43]).expect(rt, "memory"));
-    explains(alloc, &either, &number, lines).expect(rt, "memory")
 }
 
 #[test]
 fn a_leaf_of_the_callers_own(rt: HostRuntime) {
-    let alloc = rt.alloc();
     let lines = "\
 (var.is_the_answer() || var in values) = true
   right: var in values = true
     - var: 41
 ";
-    assert!(rt; explains_leaf_or_list(&rt, alloc, 41, lines));
+    let list = predicate::in_iter(rt.alloc(), [41u32, 43]).expect(&rt, "memory");
+    assert!(rt; explains(&rt, IsTheAnswer.or(list), 41, lines));
     let lines = "var.is_the_answer() = false\n  - var: 41\n";
-    assert!(rt; explains(alloc, &IsTheAnswer, &41, lines).expect(&rt, "memory"));
-    assert!(rt; is_described(alloc, &IsTheAnswer, "var.is_the_answer()\n").expect(&rt, "memory"));
+    assert!(rt; explains(&rt, IsTheAnswer, 41, lines));
+    assert!(rt; describes(&rt, IsTheAnswer, "var.is_the_answer()\n"));
 }
 
 type Own = Either<IsTheAnswer, InPredicate<u32>>;
 
 // The leaf, or a list, by a combinator of the caller's own.
-fn own(rt: &impl Abort, alloc: Global) -> Own {
-    let list = predicate::in_iter(alloc, [41u32, 43]).expect(rt, "memory");
+fn own(rt: &impl Host) -> Own {
+    let list = predicate::in_iter(rt.alloc(), [41u32, 43]).expect(rt, "memory");
     Either::new(IsTheAnswer, list)
-}
-
-fn explains_own(rt: &impl Abort, alloc: Global, number: u32, lines: &str) -> bool {
-    explains(alloc, &own(rt, alloc), &number, lines).expect(rt, "memory")
-}
-
-fn describes_own(rt: &impl Abort, alloc: Global, lines: &str) -> bool {
-    is_described(alloc, &own(rt, alloc), lines).expect(rt, "memory")
 }
 
 #[test]
 fn a_combinator_of_the_callers_own(rt: HostRuntime) {
-    let alloc = rt.alloc();
     let lines = "\
 either(var.is_the_answer(), var in values) = true
   right: var in values = true
     - var: 41
 ";
-    assert!(rt; explains_own(&rt, alloc, 41, lines));
+    assert!(rt; explains(&rt, own(&rt), 41, lines));
     let lines = "\
 either(var.is_the_answer(), var in values) = false
   left: var.is_the_answer() = false
@@ -84,14 +63,14 @@ either(var.is_the_answer(), var in values) = false
   right: var in values = false
     - var: 40
 ";
-    assert!(rt; explains_own(&rt, alloc, 40, lines));
+    assert!(rt; explains(&rt, own(&rt), 40, lines));
     let lines = "\
 either(var.is_the_answer(), var in values)
 left: var.is_the_answer()
 right: var in values
   values=[41, 43]
 ";
-    assert!(rt; describes_own(&rt, alloc, lines));
+    assert!(rt; describes(&rt, own(&rt), lines));
 }
 
 const UNDER_NOT: [&str; 2] = [
@@ -159,27 +138,12 @@ fn answer_or_small() -> Either<IsTheAnswer, OrdPredicate<u32>> {
 
 #[test]
 fn under_not_and_under_a_name(rt: HostRuntime) {
-    let alloc = rt.alloc();
     let [leaf, either] = UNDER_NOT;
-    assert!(rt; has_row(&rt, alloc, IsTheAnswer.not(), leaf));
-    assert!(rt; has_row(&rt, alloc, answer_or_small().not(), either));
+    assert!(rt; has_row(&rt, IsTheAnswer.not(), leaf));
+    assert!(rt; has_row(&rt, answer_or_small().not(), either));
     let [leaf, either] = UNDER_A_NAME;
-    assert!(rt; has_row(&rt, alloc, IsTheAnswer.name("answer"), leaf));
-    assert!(rt; has_row(&rt, alloc, answer_or_small().name("answer"), either));
-}
-
-fn is_multiple(rt: &impl Abort, alloc: Global, lines: &str) -> bool {
-    has_row(rt, alloc, leaf(MultipleOf { divisor: 42 }), lines)
-}
-
-fn is_multiple_or_greater(rt: &impl Abort, alloc: Global, lines: &str) -> bool {
-    let multiple = leaf(MultipleOf { divisor: 42 });
-    has_row(
-        rt,
-        alloc,
-        multiple.or(predicate::gt(41u32)).name("answer"),
-        lines,
-    )
+    assert!(rt; has_row(&rt, IsTheAnswer.name("answer"), leaf));
+    assert!(rt; has_row(&rt, answer_or_small().name("answer"), either));
 }
 
 #[test]
@@ -191,7 +155,7 @@ var % 42 == 0 = true
 var % 42 == 0 = false
   - var: 41
 ";
-    assert!(rt; is_multiple(&rt, rt.alloc(), lines));
+    assert!(rt; has_row(&rt, leaf(MultipleOf { divisor: 42 }), lines));
     let lines = "\
 answer
 answer: (var % 42 == 0 || var > 41)
@@ -208,42 +172,28 @@ answer = false
     right: var > 41 = false
       - var: 41
 ";
-    assert!(rt; is_multiple_or_greater(&rt, rt.alloc(), lines));
+    let multiple = leaf(MultipleOf { divisor: 42 });
+    let either = multiple.or(predicate::gt(41u32)).name("answer");
+    assert!(rt; has_row(&rt, either, lines));
 }
 
-fn explains_divisible(
-    rt: &impl Abort,
-    alloc: Global,
-    divisor: u32,
-    number: i64,
-    lines: &str,
-) -> bool {
-    explains(
-        alloc,
-        &detailed_leaf(DivisibleBy { divisor }),
-        &number,
-        lines,
-    )
-    .expect(rt, "memory")
-}
-
-fn describes_divisible(rt: &impl Abort, alloc: Global, lines: &str) -> bool {
-    is_described(alloc, &detailed_leaf(DivisibleBy { divisor: 3 }), lines).expect(rt, "memory")
+fn explains_divisible(rt: &impl Host, divisor: u32, number: i64, lines: &str) -> bool {
+    explains(rt, detailed_leaf(DivisibleBy { divisor }), number, lines)
 }
 
 // The remainder has the sign of the item, and 0 divides 0 alone.
 #[test]
 fn a_leaf_with_a_product_and_a_parameter_of_its_own(rt: HostRuntime) {
-    let alloc = rt.alloc();
     let lines = "var % 3 == 0 = false\n  - var: -7\n  - remainder: -1\n";
-    assert!(rt; explains_divisible(&rt, alloc, 3, -7, lines));
+    assert!(rt; explains_divisible(&rt, 3, -7, lines));
     let lines = "var % 3 == 0 = true\n  - var: 9\n  - remainder: 0\n";
-    assert!(rt; explains_divisible(&rt, alloc, 3, 9, lines));
+    assert!(rt; explains_divisible(&rt, 3, 9, lines));
     let lines = "var % 0 == 0 = false\n  - var: 5\n  - remainder: 5\n";
-    assert!(rt; explains_divisible(&rt, alloc, 0, 5, lines));
+    assert!(rt; explains_divisible(&rt, 0, 5, lines));
     let lines = "var % 0 == 0 = true\n  - var: 0\n  - remainder: 0\n";
-    assert!(rt; explains_divisible(&rt, alloc, 0, 0, lines));
-    assert!(rt; describes_divisible(&rt, alloc, "var % 3 == 0\ndivisor=3\n"));
+    assert!(rt; explains_divisible(&rt, 0, 0, lines));
+    let divisible = detailed_leaf(DivisibleBy { divisor: 3 });
+    assert!(rt; describes(&rt, divisible, "var % 3 == 0\ndivisor=3\n"));
 }
 
 // The parts are evaluated in the other order, and are shown in the same one.
@@ -263,7 +213,7 @@ either(var.is_the_answer(), var > 41) = false
     - var: 41
 ";
     let greater = RightFirst::new(IsTheAnswer, predicate::gt(41u32));
-    assert!(rt; has_row(&rt, rt.alloc(), greater, lines));
+    assert!(rt; has_row(&rt, greater, lines));
     let lines = "\
 either(var.is_the_answer(), var < 42)
 left: var.is_the_answer()
@@ -276,7 +226,7 @@ either(var.is_the_answer(), var < 42) = true
     - var: 41
 ";
     let less = RightFirst::new(IsTheAnswer, predicate::lt(42u32));
-    assert!(rt; has_row(&rt, rt.alloc(), less, lines));
+    assert!(rt; has_row(&rt, less, lines));
 }
 
 #[test]
@@ -291,13 +241,7 @@ fn known_numbers(rt: HostRuntime) {
 }
 
 // Of two leaves, by the operator, whether the case for the verdict has the lines.
-fn has_case_of_two(
-    rt: &impl Abort,
-    alloc: Global,
-    operator: Operator,
-    verdict: bool,
-    lines: &str,
-) -> bool {
+fn has_case_of_two(rt: &impl Host, operator: Operator, verdict: bool, lines: &str) -> bool {
     let (low, small) = (predicate::lt(3), predicate::lt(5));
     let whole = IsTheAnswer;
     let join = Join {
@@ -306,21 +250,23 @@ fn has_case_of_two(
         left: &low,
         right: &small,
     };
-    let found = join_case(alloc, join, verdict, &4).expect(rt, "memory");
-    has_lines(rt, alloc, found, lines)
+    let found = join_case(rt.alloc(), join, verdict, &4).expect(rt, "memory");
+    has_lines(rt, found, lines)
 }
 
 // By `not`.
-fn has_case_of_not(rt: &impl Abort, alloc: Global, lines: &str) -> bool {
-    let found = not_case(alloc, &IsTheAnswer, &predicate::lt(3), true, &4).expect(rt, "memory");
-    has_lines(rt, alloc, found, lines)
+fn has_case_of_not(rt: &impl Host, lines: &str) -> bool {
+    let found = not_case(rt.alloc(), &IsTheAnswer, &predicate::lt(3), true, &4).expect(
+        rt, "memory",
+    );
+    has_lines(rt, found, lines)
 }
 
 // Bare, of the verdict alone.
-fn has_bare_case(rt: &impl Abort, alloc: Global, lines: &str) -> [bool; 2] {
-    let found = bare_case(alloc, &IsTheAnswer, true, Some(true)).expect(rt, "memory");
-    let is_bare = has_lines(rt, alloc, found, lines);
-    let found = bare_case(alloc, &IsTheAnswer, true, Some(false)).expect(rt, "memory");
+fn has_bare_case(rt: &impl Host, lines: &str) -> [bool; 2] {
+    let found = bare_case(rt.alloc(), &IsTheAnswer, true, Some(true)).expect(rt, "memory");
+    let is_bare = has_lines(rt, found, lines);
+    let found = bare_case(rt.alloc(), &IsTheAnswer, true, Some(false)).expect(rt, "memory");
     [is_bare, found.is_none()]
 }
 
@@ -335,10 +281,10 @@ var.is_the_answer() = true
   right: var < 5 = true
     - var: 4
 ";
-    assert!(rt; has_case_of_two(&rt, rt.alloc(), Operator::And, false, both));
-    assert!(rt; has_case_of_two(&rt, rt.alloc(), Operator::Xor, true, one));
+    assert!(rt; has_case_of_two(&rt, Operator::And, false, both));
+    assert!(rt; has_case_of_two(&rt, Operator::Xor, true, one));
     let negated = "var.is_the_answer() = true\n  predicate: var < 3 = false\n    - var: 4\n";
     let bare = "var.is_the_answer() = true\n";
-    assert!(rt; has_case_of_not(&rt, rt.alloc(), negated));
-    assert_eq!(rt; has_bare_case(&rt, rt.alloc(), bare), [true; 2]);
+    assert!(rt; has_case_of_not(&rt, negated));
+    assert_eq!(rt; has_bare_case(&rt, bare), [true; 2]);
 }

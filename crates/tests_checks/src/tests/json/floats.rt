@@ -1,11 +1,10 @@
 //! Bounds of floats, on floats and on the numbers of JSON texts.
 use super::helpers::{Row, explains_json, is_leaf};
+use crate::tests::made::Host;
 use predicates::prelude::*;
 use predicates_json::PredicateJsonExt;
 use predicates_json::float::{self, FloatPredicate};
-use predicates_testing::explains;
-use std::alloc::Global;
-use std::process::Abort;
+use tests_support::explains;
 
 // A float, and how it is printed.
 type Printed = (f64, &'static str);
@@ -73,8 +72,7 @@ const SIDES: [Sides; 26] = [
 
 // Whether the bound has the verdict, and its case is one leaf that shows the item.
 fn is_told(
-    rt: &impl Abort,
-    alloc: Global,
+    rt: &impl Host,
     predicate: &FloatPredicate,
     symbol: &str,
     sides: Sides,
@@ -83,21 +81,20 @@ fn is_told(
     requires { ⟦<FloatPredicate as Predicate<f64>>⟧.lawful predicate.now }
 {
     let ((_, bound), (item, shown), _) = sides;
-    let mut lines = String::new(alloc);
+    let mut lines = String::new(rt.alloc());
     writeln!(lines, "var {symbol} {bound} = {verdict}").expect(rt, "memory");
     writeln!(lines, "  - var: {shown}").expect(rt, "memory");
-    explains(alloc, predicate, &item, lines.as_str()).expect(rt, "memory")
+    explains(rt.alloc(), predicate, &item, lines.as_str()).expect(rt, "memory")
 }
 
 #[test]
 fn bounds(rt: HostRuntime) {
-    let alloc = rt.alloc();
     for sides in SIDES {
         let ((bound, _), _, (below, at_most, at_least, above)) = sides;
-        assert!(rt; is_told(&rt, alloc, &float::lt(bound), "<", sides, below));
-        assert!(rt; is_told(&rt, alloc, &float::le(bound), "<=", sides, at_most));
-        assert!(rt; is_told(&rt, alloc, &float::ge(bound), ">=", sides, at_least));
-        assert!(rt; is_told(&rt, alloc, &float::gt(bound), ">", sides, above));
+        assert!(rt; is_told(&rt, &float::lt(bound), "<", sides, below));
+        assert!(rt; is_told(&rt, &float::le(bound), "<=", sides, at_most));
+        assert!(rt; is_told(&rt, &float::ge(bound), ">=", sides, at_least));
+        assert!(rt; is_told(&rt, &float::gt(bound), ">", sides, above));
     }
 }
 
@@ -115,10 +112,9 @@ const PRICES: [Row; 9] = [
 
 #[test]
 fn prices(rt: HostRuntime) {
-    let alloc = rt.alloc();
     let dear = float::ge(9.5).of_number();
     for row in &PRICES {
-        assert!(rt; is_leaf(&rt, alloc, &dear, "var >= 9.5", *row));
+        assert!(rt; is_leaf(&rt, &dear, "var >= 9.5", *row));
     }
 }
 
@@ -131,18 +127,16 @@ const NEAREST: [Row; 3] = [
 
 #[test]
 fn integers_are_read_as_the_nearest_float(rt: HostRuntime) {
-    let alloc = rt.alloc();
     let above = float::gt(9007199254740992.0).of_number();
     for row in &NEAREST {
-        assert!(rt; is_leaf(&rt, alloc, &above, "var > 9007199254740992.0", *row));
+        assert!(rt; is_leaf(&rt, &above, "var > 9007199254740992.0", *row));
     }
 }
 
 #[test]
 fn denied_price(rt: HostRuntime) {
-    let alloc = rt.alloc();
     let dear = float::ge(9.5).of_number().of_pointer("/price");
     let record = "{\"price\": 9.4999}";
     let lines = "/price = false\n  value: var >= 9.5 = false\n    - var: 9.4999\n";
-    assert!(rt; explains_json(&rt, alloc, &dear, record, lines));
+    assert!(rt; explains_json(&rt, &dear, record, lines));
 }

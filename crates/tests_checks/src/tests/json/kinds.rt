@@ -1,8 +1,8 @@
 //! Values of each kind, to predicates of each kind.
 use super::helpers::{Row, is_leaf};
+use crate::tests::made::owned;
 use predicates::prelude::*;
 use predicates_json::{PredicateJsonExt, is_null};
-use predicates_testing::text;
 use serde_json::{Map, Value};
 
 const SIGNED: [Row; 12] = [
@@ -22,10 +22,9 @@ const SIGNED: [Row; 12] = [
 
 #[test]
 fn signed_numbers(rt: HostRuntime) {
-    let alloc = rt.alloc();
     let adult = predicate::ge(18i64).of_number();
     for row in &SIGNED {
-        assert!(rt; is_leaf(&rt, alloc, &adult, "var >= 18", *row));
+        assert!(rt; is_leaf(&rt, &adult, "var >= 18", *row));
     }
 }
 
@@ -39,10 +38,9 @@ const UNSIGNED: [Row; 5] = [
 
 #[test]
 fn unsigned_numbers(rt: HostRuntime) {
-    let alloc = rt.alloc();
     let adult = predicate::ge(18u64).of_number();
     for row in &UNSIGNED {
-        assert!(rt; is_leaf(&rt, alloc, &adult, "var >= 18", *row));
+        assert!(rt; is_leaf(&rt, &adult, "var >= 18", *row));
     }
 }
 
@@ -56,12 +54,11 @@ const FLOATS: [Row; 5] = [
 
 #[test]
 fn floats(rt: HostRuntime) {
-    let alloc = rt.alloc();
     let half = predicate::function(|number: &f64| *number >= 0.5)
         .fn_name("half")
         .of_number();
     for row in &FLOATS {
-        assert!(rt; is_leaf(&rt, alloc, &half, "half(var)", *row));
+        assert!(rt; is_leaf(&rt, &half, "half(var)", *row));
     }
 }
 
@@ -74,10 +71,9 @@ const TEXTS: [Row; 4] = [
 
 #[test]
 fn strings(rt: HostRuntime) {
-    let alloc = rt.alloc();
-    let named = predicate::str::starts_with(text(alloc, "A").expect(&rt, "memory")).of_string();
+    let named = predicate::str::starts_with(owned(&rt, "A")).of_string();
     for row in &TEXTS {
-        assert!(rt; is_leaf(&rt, alloc, &named, "var.starts_with(\"A\")", *row));
+        assert!(rt; is_leaf(&rt, &named, "var.starts_with(\"A\")", *row));
     }
 }
 
@@ -89,10 +85,9 @@ const TRUTHS: [Row; 3] = [
 
 #[test]
 fn truths(rt: HostRuntime) {
-    let alloc = rt.alloc();
     let set = predicate::eq(true).of_bool();
     for row in &TRUTHS {
-        assert!(rt; is_leaf(&rt, alloc, &set, "var == true", *row));
+        assert!(rt; is_leaf(&rt, &set, "var == true", *row));
     }
 }
 
@@ -104,12 +99,11 @@ const ARRAYS: [Row; 3] = [
 
 #[test]
 fn arrays(rt: HostRuntime) {
-    let alloc = rt.alloc();
     let long = predicate::function(|items: &Vec<Value>| items.len() > 1)
         .fn_name("long")
         .of_array();
     for row in &ARRAYS {
-        assert!(rt; is_leaf(&rt, alloc, &long, "long(var)", *row));
+        assert!(rt; is_leaf(&rt, &long, "long(var)", *row));
     }
 }
 
@@ -121,12 +115,11 @@ const OBJECTS: [Row; 3] = [
 
 #[test]
 fn objects(rt: HostRuntime) {
-    let alloc = rt.alloc();
     let some = predicate::function(|members: &Map<String, Value>| !members.is_empty())
         .fn_name("some")
         .of_object();
     for row in &OBJECTS {
-        assert!(rt; is_leaf(&rt, alloc, &some, "some(var)", *row));
+        assert!(rt; is_leaf(&rt, &some, "some(var)", *row));
     }
 }
 
@@ -141,8 +134,7 @@ const NULLS: [Row; 6] = [
 
 #[test]
 fn nulls(rt: HostRuntime) {
-    let alloc = rt.alloc();
     for row in &NULLS {
-        assert!(rt; is_leaf(&rt, alloc, &is_null(), "var.is_null()", *row));
+        assert!(rt; is_leaf(&rt, &is_null(), "var.is_null()", *row));
     }
 }

@@ -1,11 +1,9 @@
 //! The examples of RFC 6901, and pointers that lead nowhere.
 use super::helpers::explains_json;
+use crate::tests::made::{Host, owned};
 use predicates::prelude::*;
 use predicates_json::{PredicateJsonExt, has_pointer, is_pointer, lacks_pointer, value_at};
-use predicates_testing::text;
 use serde_json::{Error, Value};
-use std::alloc::Global;
-use std::process::Abort;
 
 const DOCUMENT: &str = "{\"foo\":[\"bar\",\"baz\"],\"\":0,\"a/b\":1,\"c%d\":2,\"e^f\":3,\"g|h\":4,\
 \"i\\\\j\":5,\"k\\\"l\":6,\" \":7,\"m~n\":8,\"~1\":9,\"o~\":10}";
@@ -42,18 +40,18 @@ const PLACES: [(&str, &str); 27] = [
 ];
 
 // Whether that stands there, and whether presence answers so.
-fn stands(rt: &impl Abort, alloc: Global, place: (&str, &str)) -> bool {
+fn stands(rt: &impl Host, place: (&str, &str)) -> bool {
     let (pointer, expected) = place;
-    let document = Value::from_str(alloc, DOCUMENT).expect(rt, "memory");
-    let present = has_pointer(text(alloc, pointer).expect(rt, "memory"))
-        .eval(alloc, &document)
+    let document = Value::from_str(rt.alloc(), DOCUMENT).expect(rt, "memory");
+    let present = has_pointer(owned(rt, pointer))
+        .eval(rt.alloc(), &document)
         .expect(rt, "memory");
-    let absent = lacks_pointer(text(alloc, pointer).expect(rt, "memory"))
-        .eval(alloc, &document)
+    let absent = lacks_pointer(owned(rt, pointer))
+        .eval(rt.alloc(), &document)
         .expect(rt, "memory");
     match value_at(&document, pointer) {
         Some(found) => {
-            let written = found.to_string(alloc).expect(rt, "memory");
+            let written = found.to_string(rt.alloc()).expect(rt, "memory");
             written.as_str() == expected && present && !absent
         }
         None => expected.is_empty() && !present && absent,
@@ -63,7 +61,7 @@ fn stands(rt: &impl Abort, alloc: Global, place: (&str, &str)) -> bool {
 #[test]
 fn places(rt: HostRuntime) {
     for place in &PLACES {
-        assert!(rt; stands(&rt, rt.alloc(), *place));
+        assert!(rt; stands(&rt, *place));
     }
 }
 
@@ -84,40 +82,39 @@ const AGES: [(&str, &str, &str); 4] = [
 ];
 
 // Whether the row is told of a pointer that was read at run time.
-fn tells_age(rt: &impl Abort, alloc: Global, row: (&str, &str, &str)) -> bool {
+fn tells_age(rt: &impl Host, row: (&str, &str, &str)) -> bool {
     let (json, pointer, said) = row;
     let adult = predicate::ge(18i64)
         .of_number()
-        .of_pointer(text(alloc, pointer).expect(rt, "memory"));
-    let lines = format!(in alloc;
+        .of_pointer(owned(rt, pointer));
+    let lines = format!(in rt.alloc();
         "{pointer} = false\n  value: var >= 18 = false\n    {said}\n"
     ).expect(rt, "memory");
-    explains_json(rt, alloc, &adult, json, lines.as_str())
+    explains_json(rt, &adult, json, lines.as_str())
 }
 
 #[test]
 fn ages(rt: HostRuntime) {
     for row in &AGES {
-        assert!(rt; tells_age(&rt, rt.alloc(), *row));
+        assert!(rt; tells_age(&rt, *row));
     }
 }
 
-fn explains_presence(rt: &impl Abort, alloc: Global, json: &str, lines: &str) -> bool {
-    explains_json(rt, alloc, &has_pointer("/seat"), json, lines)
+fn explains_presence(rt: &impl Host, json: &str, lines: &str) -> bool {
+    explains_json(rt, &has_pointer("/seat"), json, lines)
 }
 
-fn explains_absence(rt: &impl Abort, alloc: Global, json: &str, lines: &str) -> bool {
+fn explains_absence(rt: &impl Host, json: &str, lines: &str) -> bool {
     let free = lacks_pointer(StaticText::new("/seat"));
-    explains_json(rt, alloc, &free, json, lines)
+    explains_json(rt, &free, json, lines)
 }
 
 #[test]
 fn presence(rt: HostRuntime) {
-    let alloc = rt.alloc();
-    assert!(rt; explains_presence(&rt, alloc, "{\"seat\":null}", "exists(/seat) = true\n"));
-    assert!(rt; explains_presence(&rt, alloc, "{}", "exists(/seat) = false\n"));
-    assert!(rt; explains_absence(&rt, alloc, "{}", "missing(/seat) = true\n"));
-    assert!(rt; explains_absence(&rt, alloc, "{\"seat\":13}", "missing(/seat) = false\n"));
+    assert!(rt; explains_presence(&rt, "{\"seat\":null}", "exists(/seat) = true\n"));
+    assert!(rt; explains_presence(&rt, "{}", "exists(/seat) = false\n"));
+    assert!(rt; explains_absence(&rt, "{}", "missing(/seat) = true\n"));
+    assert!(rt; explains_absence(&rt, "{\"seat\":13}", "missing(/seat) = false\n"));
 }
 
 const TEXTS: [(&str, bool); 10] = [

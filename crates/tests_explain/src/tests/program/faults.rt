@@ -1,9 +1,9 @@
 use super::split_words;
-use predicates_explain::{Exit, run_command_line};
-use predicates_fakes::{FailingReader, FailingWriter};
+use explain_run::{Exit, run_command_line};
 use std::alloc::Global;
 use std::io::{BufRead, ErrorKind, Write};
 use std::process::Abort;
+use tests_support::{FailingReader, FailingWriter};
 
 const NO_MEMORY: &str = "explain: no memory\n";
 

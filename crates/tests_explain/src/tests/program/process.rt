@@ -1,9 +1,9 @@
 //! The whole program, over a process of the test's.
 use super::{BLANK, REFUSED, USAGE};
-use predicates_explain::run_program;
-use predicates_fakes::{Closed, Process};
+use explain_run::run_program;
 use std::alloc::Global;
 use std::process::Abort;
+use tests_support::{Closed, Process};
 
 // The status, standard output and standard error.
 fn run(alloc: Global, words: &[&[u8]], input: &[u8]) -> (u8, Vec<u8>, Vec<u8>) {

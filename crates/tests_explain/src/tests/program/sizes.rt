@@ -1,11 +1,11 @@
 //! Large and empty operands.
 use super::split_words;
 use crate::tests::numbers::{SEVEN, is_one, is_total};
+use explain_run::run_command_line;
 use predicates::ord::ge;
-use predicates_explain::run_command_line;
-use predicates_testing::repeated;
 use std::alloc::Global;
 use std::process::Abort;
+use tests_support::repeated;
 
 // What is written for the input, where every line is an item.
 fn answer(rt: &impl Abort, alloc: Global, line: &[u8], input: &[u8]) -> Vec<u8> {

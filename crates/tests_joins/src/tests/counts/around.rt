@@ -1,11 +1,10 @@
 //! How often a part is asked below what stands around it.
 use super::counting::{CountingLeaf, leaf_that_counts};
+use crate::tests::made::Host;
 use predicates::boolean::AndPredicate;
 use predicates::prelude::*;
-use std::alloc::Global;
 use std::cell::Cell;
 use std::fmt;
-use std::process::Abort;
 
 /// What stands around a part: nothing, a combinator of one, or one of two with a leaf behind the
 /// part, or before it.
@@ -45,57 +44,53 @@ const CALLS: [Call; 9] = [
     Call::FindChange(Some(false)),
 ];
 
-fn ask<P: PredicateChange<Item>, Item>(
-    rt: &impl Abort,
-    alloc: Global,
-    predicate: &P,
-    item: &Item,
-    call: Call,
-)
+fn ask<P: PredicateChange<Item>, Item>(rt: &impl Host, predicate: &P, item: &Item, call: Call)
     requires { P.lawful predicate.now }
 {
     match call {
         Call::Eval => {
-            predicate.eval(alloc, item).expect(rt, "memory");
+            predicate.eval(rt.alloc(), item).expect(rt, "memory");
         }
         Call::FindCase(expected) => {
             predicate
-                .find_case(alloc, expected, item)
+                .find_case(rt.alloc(), expected, item)
                 .expect(rt, "memory");
         }
         Call::Explain(wanted) => {
-            predicate.explain(alloc, wanted, item).expect(rt, "memory");
+            predicate
+                .explain(rt.alloc(), wanted, item)
+                .expect(rt, "memory");
         }
         Call::FindChange(wanted) => {
             predicate
-                .find_change(alloc, wanted, item)
+                .find_change(rt.alloc(), wanted, item)
                 .expect(rt, "memory");
         }
     }
 }
 
-/// What is asked: a part whose leaves have a verdict, and what stands around it, with the verdict
-/// of the leaf beside it.
+/// What is asked: a part, which may be two leaves under `and`, and what stands around it, with the
+/// verdict of the leaf beside it.
 #[derive(Clone, Copy)]
 pub struct Asked<'a> {
     pub cell: &'a Cell<usize>,
-    pub holds: bool,
+    pub is_pair: bool,
     pub around: Around,
     pub beside: bool,
 }
 
-/// A leaf of the part's verdict, and one of the opposite.
+/// A leaf that holds, and one that does not.
 pub type Both<'a, Item> = AndPredicate<CountingLeaf<'a, Item>, CountingLeaf<'a, Item>, Item>;
 
 impl<'a> Asked<'a> {
-    /// A leaf of the part.
+    /// A leaf that holds.
     pub fn leaf<Item>(self) -> CountingLeaf<'a, Item> {
-        leaf_that_counts(self.cell, self.holds)
+        leaf_that_counts(self.cell, true)
     }
 
-    /// A leaf of the part with the opposite verdict.
+    /// A leaf that does not.
     pub fn other<Item>(self) -> CountingLeaf<'a, Item> {
-        leaf_that_counts(self.cell, !self.holds)
+        leaf_that_counts(self.cell, false)
     }
 
     /// Both, under `and`.
@@ -106,8 +101,7 @@ impl<'a> Asked<'a> {
     /// How often the leaves are evaluated.
     pub fn counts<P: PredicateChange<Item> + Drop, Item: fmt::Debug + Drop>(
         self,
-        rt: &impl Abort,
-        alloc: Global,
+        rt: &impl Host,
         part: P,
         item: Item,
     ) -> Counts
@@ -115,20 +109,32 @@ impl<'a> Asked<'a> {
     {
         let beside = leaf_that_counts::<Item>(self.cell, self.beside);
         match self.around {
-            Around::Alone => self.of(rt, alloc, part, &item),
-            Around::Not => self.of(rt, alloc, part.not(), &item),
-            Around::Name => self.of(rt, alloc, part.name("named"), &item),
-            Around::And => self.of(rt, alloc, part.and(beside), &item),
-            Around::Or => self.of(rt, alloc, part.or(beside), &item),
-            Around::Xor => self.of(rt, alloc, part.xor(beside), &item),
-            Around::AfterXor => self.of(rt, alloc, beside.xor(part), &item),
+            Around::Alone => self.of(rt, part, &item),
+            Around::Not => self.of(rt, part.not(), &item),
+            Around::Name => self.of(rt, part.name("named"), &item),
+            Around::And => self.of(rt, part.and(beside), &item),
+            Around::Or => self.of(rt, part.or(beside), &item),
+            Around::Xor => self.of(rt, part.xor(beside), &item),
+            Around::AfterXor => self.of(rt, beside.xor(part), &item),
         }
     }
 
-    fn of<P: PredicateChange<Item> + Drop, Item>(
+    /// The same of a part with nothing around it, whose type then stands in no other.
+    pub fn alone<P: PredicateChange<Item> + Drop, Item: Drop>(
         self,
-        rt: &impl Abort,
-        alloc: Global,
+        rt: &impl Host,
+        part: P,
+        item: Item,
+    ) -> Counts
+        requires { P.lawful part }
+    {
+        assert!(rt; matches!(self.around, Around::Alone));
+        self.of(rt, part, &item)
+    }
+
+    pub fn of<P: PredicateChange<Item> + Drop, Item>(
+        self,
+        rt: &impl Host,
         predicate: P,
         item: &Item,
     ) -> Counts
@@ -137,11 +143,11 @@ impl<'a> Asked<'a> {
         let mut counts = [0; 10];
         for (place, call) in CALLS.into_iter().enumerate() {
             self.cell.set(0);
-            ask(rt, alloc, &predicate, item, call);
+            ask(rt, &predicate, item, call);
             counts[place] = self.cell.get();
         }
         self.cell.set(0);
-        let _unmet = require(alloc, &predicate, item);
+        let _unmet = require(rt.alloc(), &predicate, item);
         counts[9] = self.cell.get();
         counts
     }

@@ -1,10 +1,10 @@
 //! How often calls that report what does not hold evaluate the leaves.
 use super::counting::{CountingLeaf, leaf_that_counts};
+use crate::tests::made::{Host, vec_of};
 use predicates::boolean::AndPredicate;
 use predicates::prelude::*;
 use std::alloc::Global;
 use std::cell::Cell;
-use std::process::Abort;
 
 type Rule<'a> = AndPredicate<CountingLeaf<'a, u32>, CountingLeaf<'a, u32>, u32>;
 
@@ -14,26 +14,26 @@ fn rule(asked: &Cell<usize>, holds: bool) -> Rule<'_> {
 }
 
 // By `failures` of a rule that holds and of two that do not.
-fn asked_by_failures(rt: &impl Abort, alloc: Global) -> usize {
+fn asked_by_failures(rt: &impl Host) -> usize {
     let asked = Cell::new(0);
     let rules = [rule(&asked, true), rule(&asked, false), rule(&asked, false)];
-    failures(alloc, &rules, &5u32).expect(rt, "memory");
+    failures(rt.alloc(), &rules, &5u32).expect(rt, "memory");
     asked.get()
 }
 
 // By `check_all`, or by `require_all`, of three expectations, of which the first is met.
-fn asked_of_three(rt: &impl Abort, alloc: Global, requires_all: bool) -> usize {
+fn asked_of_three(rt: &impl Host, requires_all: bool) -> usize {
     let asked = Cell::new(0);
-    let mut expected = Vec::new(alloc);
+    let mut expected = Vec::new(rt.alloc());
     for holds in [true, false, false] {
         expected
-            .push(expect(alloc, "a", 5u32, rule(&asked, holds)).expect(rt, "memory"))
+            .push(expect(rt.alloc(), "a", 5u32, rule(&asked, holds)).expect(rt, "memory"))
             .expect(rt, "memory");
     }
     if requires_all {
-        let _unmet = require_all(alloc, expected.as_slice());
+        let _unmet = require_all(rt.alloc(), expected.as_slice());
     } else {
-        check_all(alloc, expected.as_slice()).expect(rt, "memory");
+        check_all(rt.alloc(), expected.as_slice()).expect(rt, "memory");
     }
     asked.get()
 }
@@ -44,24 +44,24 @@ fn asked_by_require_as(alloc: Global, holds: bool) -> usize {
     asked.get()
 }
 
-fn asked_by_add_failure(rt: &impl Abort, alloc: Global, holds: bool) -> usize {
+fn asked_by_add_failure(rt: &impl Host, holds: bool) -> usize {
     let asked = Cell::new(0);
-    let mut cases = Vec::new(alloc);
-    add_failure(alloc, &mut cases, &rule(&asked, holds), &5u32).expect(rt, "memory");
+    let mut cases = Vec::new(rt.alloc());
+    add_failure(rt.alloc(), &mut cases, &rule(&asked, holds), &5u32).expect(rt, "memory");
     asked.get()
 }
 
-fn asked_by_required_change(rt: &impl Abort, alloc: Global, holds: bool) -> usize {
+fn asked_by_required_change(rt: &impl Host, holds: bool) -> usize {
     let asked = Cell::new(0);
-    required_change(alloc, &rule(&asked, holds), &5u32).expect(rt, "memory");
+    required_change(rt.alloc(), &rule(&asked, holds), &5u32).expect(rt, "memory");
     asked.get()
 }
 
 // By `sift` of three items, which all pass or all do not.
-fn asked_by_sift(rt: &impl Abort, alloc: Global, holds: bool) -> usize {
+fn asked_by_sift(rt: &impl Host, holds: bool) -> usize {
     let asked = Cell::new(0);
-    let items = Vec::from_slice(alloc, &[1u32, 2, 3]).expect(rt, "memory");
-    sift(alloc, &rule(&asked, holds), items).expect(rt, "memory");
+    let items = vec_of(rt, &[1u32, 2, 3]);
+    sift(rt.alloc(), &rule(&asked, holds), items).expect(rt, "memory");
     asked.get()
 }
 
@@ -70,14 +70,14 @@ fn asked_by_sift(rt: &impl Abort, alloc: Global, holds: bool) -> usize {
 #[test]
 fn reports(rt: HostRuntime) {
     let alloc = rt.alloc();
-    assert_eq!(rt; asked_by_failures(&rt, alloc), 2 + 4 + 4);
-    assert_eq!(rt; asked_of_three(&rt, alloc, false), 2 + 4 + 4);
-    assert_eq!(rt; asked_of_three(&rt, alloc, true), 2 + 4 + 4);
+    assert_eq!(rt; asked_by_failures(&rt), 2 + 4 + 4);
+    assert_eq!(rt; asked_of_three(&rt, false), 2 + 4 + 4);
+    assert_eq!(rt; asked_of_three(&rt, true), 2 + 4 + 4);
     for (holds, twice) in [(true, 2), (false, 4)] {
         assert_eq!(rt; asked_by_require_as(alloc, holds), twice);
-        assert_eq!(rt; asked_by_add_failure(&rt, alloc, holds), twice);
-        assert_eq!(rt; asked_by_required_change(&rt, alloc, holds), 2);
+        assert_eq!(rt; asked_by_add_failure(&rt, holds), twice);
+        assert_eq!(rt; asked_by_required_change(&rt, holds), 2);
     }
-    assert_eq!(rt; asked_by_sift(&rt, alloc, true), 3 * 2);
-    assert_eq!(rt; asked_by_sift(&rt, alloc, false), 3 * 4);
+    assert_eq!(rt; asked_by_sift(&rt, true), 3 * 2);
+    assert_eq!(rt; asked_by_sift(&rt, false), 3 * 4);
 }

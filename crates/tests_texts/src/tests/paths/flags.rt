@@ -1,10 +1,9 @@
 //! Flags, a width and a precision change no text of a kind, a fault or a predicate of files.
 use super::helpers::{same_bytes, same_text};
+use crate::tests::made::Host;
 use predicates_core::Predicate;
 use predicates_path::{FileType, PathFault, PredicateFileContentExt, Snapshot};
-use predicates_testing::{print_in_combinators, print_under_flags};
-use std::alloc::Global;
-use std::process::Abort;
+use tests_support::{print_in_combinators, print_under_flags};
 
 #[test]
 fn kinds_and_faults(rt: HostRuntime) {
@@ -42,20 +41,15 @@ other fault
 }
 
 // Whether the predicate prints the path of its file, also in a combinator.
-fn prints_path<P: Predicate<Snapshot> + Drop>(
-    rt: &impl Abort,
-    alloc: Global,
-    predicate: P,
-) -> bool {
-    let mut out = String::new(alloc);
-    print_in_combinators(alloc, &mut out, predicate).expect(rt, "memory");
+fn prints_path<P: Predicate<Snapshot> + Drop>(rt: &impl Host, predicate: P) -> bool {
+    let mut out = String::new(rt.alloc());
+    print_in_combinators(rt.alloc(), &mut out, predicate).expect(rt, "memory");
     out.as_str() == "var is p\n"
 }
 
 #[test]
 fn equal_files(rt: HostRuntime) {
-    let alloc = rt.alloc();
-    assert!(rt; prints_path(&rt, alloc, same_bytes(&rt, alloc, b"a")));
-    assert!(rt; prints_path(&rt, alloc, same_text(&rt, alloc, b"a")));
-    assert!(rt; prints_path(&rt, alloc, same_bytes(&rt, alloc, b"a").from_file_path()));
+    assert!(rt; prints_path(&rt, same_bytes(&rt, b"a")));
+    assert!(rt; prints_path(&rt, same_text(&rt, b"a")));
+    assert!(rt; prints_path(&rt, same_bytes(&rt, b"a").from_file_path()));
 }

@@ -1,19 +1,17 @@
 //! Which snapshots make a predicate, and which are refused.
 use super::helpers::{file, same_bytes, snapshot};
+use crate::tests::made::Host;
 use predicates_path::FileType::{Dir, File, Other};
 use predicates_path::PathFault::{NotFound, NotRegular, PermissionDenied};
 use predicates_path::{FileType, FileTypePredicate, PathFault, Snapshot, eq_file};
-use std::alloc::Global;
-use std::process::Abort;
 
 // The fault for which a file of these parts is refused, or none.
 fn refusal(
-    rt: &impl Abort,
-    alloc: Global,
+    rt: &impl Host,
     kind: Result<FileType, PathFault>,
     content: Result<&[u8], PathFault>,
 ) -> Option<PathFault> {
-    eq_file(snapshot(rt, alloc, kind, kind, content)).err()
+    eq_file(snapshot(rt, kind, kind, content)).err()
 }
 
 // A kind, and the fault of its content.
@@ -27,23 +25,23 @@ const REFUSED: [(Result<FileType, PathFault>, PathFault); 4] = [
 #[test]
 fn files_without_content(rt: HostRuntime) {
     for (kind, fault) in REFUSED {
-        assert_eq!(rt; refusal(&rt, rt.alloc(), kind, Err(fault)), Some(fault));
+        assert_eq!(rt; refusal(&rt, kind, Err(fault)), Some(fault));
     }
 }
 
 #[test]
 fn a_content_that_is_no_text(rt: HostRuntime) {
-    assert!(rt; same_bytes(&rt, rt.alloc(), b"\xff").utf8().is_none());
+    assert!(rt; same_bytes(&rt, b"\xff").utf8().is_none());
 }
 
 // Parts that no file system gives: nothing stands there, and yet there is content.
-fn odd(rt: &impl Abort, alloc: Global) -> Snapshot {
-    snapshot(rt, alloc, Err(NotFound), Err(NotFound), Ok(b"a"))
+fn odd(rt: &impl Host) -> Snapshot {
+    snapshot(rt, Err(NotFound), Err(NotFound), Ok(b"a"))
 }
 
 #[test]
 fn content_where_nothing_stands(rt: HostRuntime) {
-    assert!(rt; FileTypePredicate::from_path(&odd(&rt, rt.alloc())) == Err(NotFound));
-    assert!(rt; eq_file(odd(&rt, rt.alloc())).is_ok());
-    assert!(rt; FileTypePredicate::from_path(&file(&rt, rt.alloc(), b"a")).is_ok());
+    assert!(rt; FileTypePredicate::from_path(&odd(&rt)) == Err(NotFound));
+    assert!(rt; eq_file(odd(&rt)).is_ok());
+    assert!(rt; FileTypePredicate::from_path(&file(&rt, b"a")).is_ok());
 }

@@ -1,15 +1,15 @@
 //! What `take` finds on a real file system.
 use super::parts::{Parts, has_parts};
+use crate::tests::made::Host;
 use predicates_path::FileType::{Dir, File, Other, Symlink};
 use predicates_path::PathFault::{NotFound, NotRegular, Other as Fault};
 use predicates_path::Snapshot;
-use predicates_testing::new_folder;
-use std::alloc::{AllocError, Global};
+use std::alloc::AllocError;
 use std::io::{Read, Write};
 use std::os::unix::fs::symlink;
 use std::os::unix::io::AsRawFd;
-use std::process::Abort;
 use std::{fs, io};
+use tests_support::new_folder;
 
 // The names in the folder, and what stands under each.
 const ROWS: [(&str, Parts<'static>); 15] = [
@@ -106,8 +106,8 @@ fn what_stands_in_a_folder(rt: HostRuntime) {
 }
 
 // This many bytes, which repeat after 251.
-fn bytes(rt: &impl Abort, alloc: Global, length: u32) -> Vec<u8> {
-    let mut bytes = Vec::new(alloc);
+fn bytes(rt: &impl Host, length: u32) -> Vec<u8> {
+    let mut bytes = Vec::new(rt.alloc());
     for number in 0..length {
         bytes.push((number % 251) as u8).expect(rt, "memory");
     }
@@ -122,7 +122,7 @@ fn is_kept(rt: &HostRuntime, folder: &str, content: &[u8]) -> io::Result<bool> {
 
 #[test]
 fn a_long_content(rt: HostRuntime) {
-    let content = bytes(&rt, rt.alloc(), 70_001);
+    let content = bytes(&rt, 70_001);
     let folder = new_folder(&rt, "predicates_path").expect(&rt, "files");
     let kept = is_kept(&rt, folder.as_str(), content.as_slice());
     fs::remove_dir_all(&rt, folder.as_str()).expect(&rt, "files");

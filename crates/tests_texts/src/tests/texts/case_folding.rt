@@ -1,12 +1,11 @@
 //! Texts without regard to case. The foldings are those of Unicode's `CaseFolding.txt`.
 use crate::tests::asked::shows;
+use crate::tests::made::{Host, owned};
 use predicates::ord::eq;
-use predicates_testing::{is_described, repeated, text};
 use predicates_text::{
     PredicateStrExt, case_folded, case_folded_view, eq_ignore_case, is_case_folded, search,
 };
-use std::alloc::Global;
-use std::process::Abort;
+use tests_support::{is_described, repeated};
 
 // A text and its folding.
 const FOLDED: [(&str, &str); 8] = [
@@ -85,24 +84,15 @@ const VIEWED: [(&str, &str, &str); 6] = [
     ("", "", "var == \"\" = true\n  - var: \"\"\n"),
 ];
 
-fn shows_view(rt: &impl Abort, alloc: Global, wanted: &str, item: &str, lines: &str) -> bool {
-    let equal = eq(text(alloc, wanted).expect(rt, "memory")).fold_case();
-    shows(
-        rt,
-        alloc,
-        equal,
-        text(alloc, item).expect(rt, "memory"),
-        lines,
-    )
+fn shows_view(rt: &impl Host, wanted: &str, item: &str, lines: &str) -> bool {
+    let equal = eq(owned(rt, wanted)).fold_case();
+    shows(rt, equal, owned(rt, item), lines)
 }
 
 #[test]
 fn the_case_shows_the_folded_text(rt: HostRuntime) {
     for (wanted, item, lines) in VIEWED {
-        assert!(rt;
-            shows_view(&rt, rt.alloc(), wanted, item, lines),
-            "{wanted} and {item}"
-        );
+        assert!(rt; shows_view(&rt, wanted, item, lines), "{wanted} and {item}");
     }
 }
 
@@ -126,41 +116,37 @@ const COMPARED: [(&str, &str, &str); 4] = [
     ("", "", "var.eq_ignore_case(\"\") = true\n  - var: \n"),
 ];
 
-fn shows_leaf(rt: &impl Abort, alloc: Global, other: &str, item: &str, lines: &str) -> bool {
-    let same = eq_ignore_case(text(alloc, other).expect(rt, "memory"));
-    shows(
-        rt,
-        alloc,
-        same,
-        text(alloc, item).expect(rt, "memory"),
-        lines,
-    )
+fn shows_leaf(rt: &impl Host, other: &str, item: &str, lines: &str) -> bool {
+    let same = eq_ignore_case(owned(rt, other));
+    shows(rt, same, owned(rt, item), lines)
 }
 
 #[test]
 fn the_case_shows_the_item_of_a_comparison(rt: HostRuntime) {
     for (other, item, lines) in COMPARED {
-        assert!(rt;
-            shows_leaf(&rt, rt.alloc(), other, item, lines),
-            "{other} and {item}"
-        );
+        assert!(rt; shows_leaf(&rt, other, item, lines), "{other} and {item}");
     }
 }
 
-fn is_described_by_its_part(rt: &impl Abort, alloc: Global) -> bool {
-    let equal = eq(text(alloc, "a").expect(rt, "memory")).fold_case();
-    is_described(alloc, &equal, "var == \"a\"\npredicate: var == \"a\"\n").expect(rt, "memory")
+fn is_described_by_its_part(rt: &impl Host) -> bool {
+    let equal = eq(owned(rt, "a")).fold_case();
+    is_described(
+        rt.alloc(),
+        &equal,
+        "var == \"a\"\npredicate: var == \"a\"\n",
+    )
+    .expect(rt, "memory")
 }
 
 #[test]
 fn it_is_described_by_its_part(rt: HostRuntime) {
-    assert!(rt; is_described_by_its_part(&rt, rt.alloc()));
+    assert!(rt; is_described_by_its_part(&rt));
 }
 
 // The number of bytes of the copy that the view of the text takes.
-fn copied(rt: &impl Abort, alloc: Global, item: &String) -> usize {
-    let mut copy = String::new(alloc);
-    case_folded_view(alloc, item, &mut copy).expect(rt, "memory");
+fn copied(rt: &impl Host, item: &String) -> usize {
+    let mut copy = String::new(rt.alloc());
+    case_folded_view(rt.alloc(), item, &mut copy).expect(rt, "memory");
     copy.len()
 }
 
@@ -168,7 +154,7 @@ fn copied(rt: &impl Abort, alloc: Global, item: &String) -> usize {
 fn long_texts_are_copied_where_they_change(rt: HostRuntime) {
     let alloc = rt.alloc();
     let long = repeated(alloc, "aä", 3000, "").expect(&rt, "memory");
-    assert_eq!(rt; copied(&rt, alloc, &long), 0);
+    assert_eq!(rt; copied(&rt, &long), 0);
     let long = repeated(alloc, "aä", 3000, "ß").expect(&rt, "memory");
-    assert_eq!(rt; copied(&rt, alloc, &long), 9002);
+    assert_eq!(rt; copied(&rt, &long), 9002);
 }

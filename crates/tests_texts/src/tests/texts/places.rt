@@ -1,6 +1,6 @@
 //! Places, counts and views of texts, by the calls themselves.
-use predicates_testing::repeated;
 use predicates_text::{count, lines_even, search, trimmed};
+use tests_support::repeated;
 
 #[test]
 fn places_of_patterns(rt: HostRuntime) {

@@ -1,8 +1,7 @@
 //! Which characters `trim` drops.
+use crate::tests::made::Host;
 use predicates_core::Predicate;
 use predicates_text::{PredicateStrExt, is_empty};
-use std::alloc::Global;
-use std::process::Abort;
 
 // The first and the last of each row of characters with the property White_Space.
 const WHITE_SPACE: [(u32, u32); 10] = [
@@ -28,10 +27,13 @@ fn is_white_space(number: u32) -> bool {
 }
 
 // Whether nothing is left of the character alone.
-fn is_trimmed(rt: &impl Abort, alloc: Global, character: char) -> bool {
-    let mut item = String::new(alloc);
+fn is_trimmed(rt: &impl Host, character: char) -> bool {
+    let mut item = String::new(rt.alloc());
     item.push(character).expect(rt, "memory");
-    is_empty().trim().eval(alloc, &item).expect(rt, "memory")
+    is_empty()
+        .trim()
+        .eval(rt.alloc(), &item)
+        .expect(rt, "memory")
 }
 
 #[test]
@@ -40,7 +42,7 @@ fn trim_drops_white_space_alone(rt: HostRuntime) {
         let Some(character) = char::from_u32(number) else {
             continue;
         };
-        let is_trimmed = is_trimmed(&rt, rt.alloc(), character);
+        let is_trimmed = is_trimmed(&rt, character);
         assert_eq!(rt; is_trimmed, is_white_space(number), "{number}");
     }
 }

@@ -1,7 +1,7 @@
 //! What is told of slips behind `then`, and of operators of other languages.
-use predicates_vet::read_checks;
 use std::alloc::Global;
 use std::process::Abort;
+use vet_run::read_checks;
 
 // An expression, and how what is told of it ends.
 const OPERATORS: [(&str, &str); 3] = [

@@ -1,8 +1,8 @@
 //! Labels of records: by what is no path, by paths with an escape, and by floats.
 use super::told;
-use predicates_fakes::Process;
 use std::alloc::Global;
 use std::process::Abort;
+use tests_support::Process;
 
 const FILES: [(&str, &[u8]); 1] = [("rules", b"a: /x == 1")];
 

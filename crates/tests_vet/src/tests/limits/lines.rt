@@ -1,13 +1,12 @@
 //! The longest line, and how much of a longer one is held.
 use super::rules::checks_of;
-use predicates_lines::{TakenLine, next_line_within};
-use predicates_records::{Position, TakenRecord, next_record};
-use predicates_vet::settings::{Report, Settings};
-use predicates_vet::{Counts, Job, Streams, Tally, run_records};
 use std::alloc::Global;
 use std::io;
 use std::io::{BufRead, Read};
 use std::process::Abort;
+use streams::{Position, TakenLine, TakenRecord, next_line_within, next_record};
+use vet_run::settings::{Report, Settings};
+use vet_run::{Counts, Job, Streams, Tally, run_records};
 
 // How many bytes a line may have, with its line feed.
 const LONGEST: usize = 64 * 1024 * 1024;

@@ -1,8 +1,8 @@
 //! Records that nest: the deepest, those that are broken, and objects in objects.
 use super::{nested, told};
-use predicates_fakes::Process;
 use std::alloc::Global;
 use std::process::Abort;
+use tests_support::Process;
 
 const FILES: [(&str, &[u8]); 1] = [("rules", b"a: / exists")];
 

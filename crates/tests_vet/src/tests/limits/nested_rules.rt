@@ -2,10 +2,10 @@
 //! 2^60 times, and no run would end.
 use super::nested;
 use super::rules::checks_of;
-use predicates_vet::settings::{Report, Settings};
-use predicates_vet::{Counts, Job, Streams, Tally, run_records};
 use std::alloc::Global;
 use std::process::Abort;
+use vet_run::settings::{Report, Settings};
+use vet_run::{Counts, Job, Streams, Tally, run_records};
 
 // What opens and what closes a level of a rule, innermost of which `/ == 1` stands, and how often.
 const OF_NUMBERS: [(&str, &str, usize); 9] = [

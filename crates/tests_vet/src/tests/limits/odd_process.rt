@@ -1,5 +1,4 @@
 //! A process whose output fails otherwise than by a closed pipe, or with an input that is no file.
-use predicates_fakes::{OpenedFile, Process, Slow};
 use std::alloc::{Alloc, Allocator, Global};
 use std::env::FillError;
 use std::fmt::Display;
@@ -8,6 +7,7 @@ use std::io;
 use std::io::{Eprint, Error, ErrorKind, Input, Lines, Print};
 use std::rt::{Clock, Env, Files};
 use std::time::Duration;
+use tests_support::{OpenedFile, Process, Slow};
 
 /// A process, but for its standard output, of which each write fails with an error of the kind,
 /// where there is one, and for the input of the name, which is read as before and is a folder.

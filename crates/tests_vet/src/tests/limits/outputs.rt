@@ -2,11 +2,11 @@
 //! share of an input can't be told.
 use super::odd_process::OddProcess;
 use super::told;
-use predicates_fakes::{Closed, Process};
-use predicates_vet_program::run_program;
 use std::alloc::Global;
 use std::io::ErrorKind;
 use std::process::Abort;
+use tests_support::{Closed, Process};
+use vet_program::run_program;
 
 const FILES: [(&str, &[u8]); 3] = [
     ("rules", b"a: / == 1"),

@@ -1,11 +1,11 @@
 //! Many rules, long ones, and those that nest.
 use super::told;
-use predicates_fakes::Process;
-use predicates_rule_check::RuleCheck;
-use predicates_vet::read_checks;
 use std::alloc::Global;
 use std::process::Abort;
 use std::str;
+use tests_support::Process;
+use vet_checks::RuleCheck;
+use vet_run::read_checks;
 
 // The checks of rules that are read.
 pub(super) fn checks_of(rt: &impl Abort, alloc: Global, rules: &[u8]) -> Vec<RuleCheck> {

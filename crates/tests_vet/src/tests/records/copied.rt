@@ -1,8 +1,7 @@
-//! A program over records, as the comment of `predicates_records` begins it.
-use predicates_lines::{MAX_LINE, RunFault, write_bytes};
-use predicates_records::{Position, TakenRecord, next_record};
+//! A program over records, as the comment of `streams` begins it.
 use std::alloc::Global;
 use std::io::{BufRead, Write};
+use streams::{MAX_LINE, Position, RunFault, TakenRecord, next_record, write_bytes};
 
 // Writes the records, and says whether each was as long as it may be and each array ended.
 fn copy<R: BufRead + Drop, W: Write + Drop>(

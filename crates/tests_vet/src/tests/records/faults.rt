@@ -1,10 +1,9 @@
 //! Reads that fail, and what is left behind them.
-use predicates_fakes::Slow;
-use predicates_lines::{MAX_LINE, RunFault};
-use predicates_records::{Position, TakenRecord, next_record};
 use std::alloc::Global;
 use std::io::ErrorKind;
 use std::process::Abort;
+use streams::{MAX_LINE, Position, RunFault, TakenRecord, next_record};
+use tests_support::Slow;
 
 // Whether a read behind these bytes fails so, and the next call takes the rest of the record.
 fn goes_on(

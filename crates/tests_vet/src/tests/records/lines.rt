@@ -1,5 +1,5 @@
 //! Lines within a length.
-use predicates_lines::{TakenLine, next_line_within};
+use streams::{TakenLine, next_line_within};
 
 // What is taken, one after another, and the line.
 const TAKEN: [(TakenLine, &[u8]); 6] = [

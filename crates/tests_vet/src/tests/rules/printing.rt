@@ -1,12 +1,13 @@
 //! Rules that are printed, and read again.
 
-use predicates_rules::condition::{Comparison, Condition, Relation, State, ValueKind};
-use predicates_rules::denied::Denied;
-use predicates_rules::expression::{Connective, Expression, HowMany};
-use predicates_rules::literal::Literal;
-use predicates_rules::rule::{Rule, read_rules, written_is_read};
+use super::halves;
 use std::alloc::Global;
 use std::process::Abort;
+use vet_rules::condition::{Comparison, Condition, Relation, State, ValueKind};
+use vet_rules::denied::Denied;
+use vet_rules::expression::{Connective, Expression, HowMany};
+use vet_rules::literal::Literal;
+use vet_rules::rule::{Rule, read_rules, written_is_read};
 
 // The rules of one line, of which the text is the expression.
 fn read(rt: &impl Abort, alloc: Global, text: &str) -> Vec<Rule> {
@@ -48,136 +49,102 @@ fn prints(rt: &impl Abort, alloc: Global, text: &str, expected: &str) -> bool {
 }
 
 // The expression of a rule, and how it is printed.
-const PRINTED_COMPARISONS: [(&str, &str); 18] = [
-    ("/a==1", "/a == 1"),
-    ("/\t exists", "/ exists"),
-    ("/a/b~1c missing", "/a/b~1c missing"),
-    ("/a is_empty", "/a is_empty"),
-    ("/a!=-1", "/a != -1"),
-    ("/a<18446744073709551615", "/a < 18446744073709551615"),
-    ("/a<=-9223372036854775808", "/a <= -9223372036854775808"),
-    ("/a>true", "/a > true"),
-    ("/a>=null", "/a >= null"),
-    ("/a==false", "/a == false"),
-    ("/a==1.50", "/a == 1.50"),
-    ("/a==-0", "/a == -0"),
-    ("/a==1E+2", "/a == 1E+2"),
-    ("/start<=/end", "/start <= /end"),
-    ("/start==/", "/start == /"),
-    ("^/start==^/", "^/start == ^/"),
-    ("^/ is object", "^/ is object"),
-    ("any/a(^/b>/)", "any /a (^/b > /)"),
-];
+const PRINTED_COMPARISONS: &str = "
+/a==1 => /a == 1
+/a/b~1c missing => /a/b~1c missing
+/a is_empty => /a is_empty
+/a!=-1 => /a != -1
+/a<18446744073709551615 => /a < 18446744073709551615
+/a<=-9223372036854775808 => /a <= -9223372036854775808
+/a>true => /a > true
+/a>=null => /a >= null
+/a==false => /a == false
+/a==1.50 => /a == 1.50
+/a==-0 => /a == -0
+/a==1E+2 => /a == 1E+2
+/start<=/end => /start <= /end
+/start==/ => /start == /
+^/start==^/ => ^/start == ^/
+^/ is object => ^/ is object
+any/a(^/b>/) => any /a (^/b > /)
+";
 
-const PRINTED_CONDITIONS: [(&str, &str); 13] = [
-    ("\"/Order ID\"==3", "\"/Order ID\" == 3"),
-    ("any\"/a\\t[\"(\"/b\" exists)", "any \"/a\\t[\" (/b exists)"),
-    ("keys\"^/\"in[]", "keys ^/ in []"),
-    ("/a length>=3", "/a length >= 3"),
-    ("/a is   text", "/a is text"),
-    ("/a is null", "/a is null"),
-    ("/a starts_with\"b\"", "/a starts_with \"b\""),
-    ("/a ends_with\"\"", "/a ends_with \"\""),
+const PRINTED_CONDITIONS: &str = r#"
+"/Order ID"==3 => "/Order ID" == 3
+any"/a\t["("/b" exists) => any "/a\t[" (/b exists)
+keys"^/"in[] => keys ^/ in []
+/a length>=3 => /a length >= 3
+/a is   text => /a is text
+/a is null => /a is null
+/a starts_with"b" => /a starts_with "b"
+/a ends_with"" => /a ends_with ""
+/a matches"^[A-Z]{3}$" => /a matches "^[A-Z]{3}$"
+/seat in[ ] => /seat in []
+/seat in[13] => /seat in [13]
+/seat in[13,17 , "a, b",null] => /seat in [13, 17, "a, b", null]
+"#;
+
+const PRINTED_JOINS: &str = r#"
+(((/a exists))) => /a exists
+not(not /a exists) => not not /a exists
+not(/a==1 or/b==2) => not (/a == 1 or /b == 2)
+((/a exists and /b exists) or /c exists) or /d exists => (/a exists and /b exists or /c exists) or /d exists
+(/a exists or /b exists) and (/c exists xor /d exists) => (/a exists or /b exists) and (/c exists xor /d exists)
+(/a exists and /b exists) xor (/c exists or /d exists) => /a exists and /b exists xor (/c exists or /d exists)
+(/a exists and /b exists) and /c exists => (/a exists and /b exists) and /c exists
+each/lines(/quantity>=1 and/sku matches"^[A-Z]{3}$") => each /lines (/quantity >= 1 and /sku matches "^[A-Z]{3}$")
+any/((/ exists)) => any / (/ exists)
+at least 2 of(/a exists,(/b exists or /c exists)) => at least 2 of (/a exists, /b exists or /c exists)
+not at least 0 of((not(/a exists)))# why => not at least 0 of (not /a exists)
+"#;
+
+const PRINTED_IMPLICATIONS: &str = r#"
+if/a exists then/b exists => if /a exists then /b exists
+if((/a exists or/b exists))then(if/c exists then/d exists) => if /a exists or /b exists then if /c exists then /d exists
+if(if/a exists then/b exists)then/c exists => if if /a exists then /b exists then /c exists
+not(if/a exists then/b exists) => not (if /a exists then /b exists)
+/c exists and(if/a exists then(/b exists and(if/ exists then/ exists))) => /c exists and (if /a exists then /b exists and (if / exists then / exists))
+at least 1 of((if/a exists then/b exists),any/(if/ exists then/ exists)) => at least 1 of (if /a exists then /b exists, any / (if / exists then / exists))
+keys/a in[] => keys /a in []
+not(keys / in["b"]) => not keys / in ["b"]
+each/lines((keys/ in["sku"])or/ is text) => each /lines (keys / in ["sku"] or / is text)
+"#;
+
+fn all_printed(rt: &impl Abort, alloc: Global, rows: &str) {
+    for row in rows.lines() {
+        let (text, expected) = halves(row);
+        let same = row.is_empty() || prints(rt, alloc, text, expected);
+        assert!(rt; same, "{row}");
+    }
+}
+
+// The same with characters that do not print.
+const PRINTED_CHARACTERS: [(&str, &str); 4] = [
+    ("/\t exists", "/ exists"),
     (
         "/a contains\"\\u00e9\\/\\\"\\\\\\b\\f\\n\\r\\t\\u0000\\u001F\\u007f\\ud83d\\ude00\"",
         "/a contains \"é/\\\"\\\\\\b\\f\\n\\r\\t\\u0000\\u001f\u{7f}😀\"",
     ),
-    ("/a matches\"^[A-Z]{3}$\"", "/a matches \"^[A-Z]{3}$\""),
-    ("/seat in[ ]", "/seat in []"),
-    ("/seat in[13]", "/seat in [13]"),
-    (
-        "/seat in[13,17 , \"a, b\",null]",
-        "/seat in [13, 17, \"a, b\", null]",
-    ),
-];
-
-const PRINTED_JOINS: [(&str, &str); 12] = [
-    ("(((/a exists)))", "/a exists"),
-    ("not(not /a exists)", "not not /a exists"),
-    ("not(/a==1 or/b==2)", "not (/a == 1 or /b == 2)"),
-    (
-        "((/a exists and /b exists) or /c exists) or /d exists",
-        "(/a exists and /b exists or /c exists) or /d exists",
-    ),
-    (
-        "(/a exists or /b exists) and (/c exists xor /d exists)",
-        "(/a exists or /b exists) and (/c exists xor /d exists)",
-    ),
-    (
-        "(/a exists and /b exists) xor (/c exists or /d exists)",
-        "/a exists and /b exists xor (/c exists or /d exists)",
-    ),
-    (
-        "(/a exists and /b exists) and /c exists",
-        "(/a exists and /b exists) and /c exists",
-    ),
-    (
-        "each/lines(/quantity>=1 and/sku matches\"^[A-Z]{3}$\")",
-        "each /lines (/quantity >= 1 and /sku matches \"^[A-Z]{3}$\")",
-    ),
-    ("any/((/ exists))", "any / (/ exists)"),
     (
         "at\tleast 3/lines(/price>0)",
         "at least 3 /lines (/price > 0)",
     ),
     (
-        "at least 2 of(/a exists,(/b exists or /c exists))",
-        "at least 2 of (/a exists, /b exists or /c exists)",
-    ),
-    (
-        "not at least 0 of((not(/a exists)))# why",
-        "not at least 0 of (not /a exists)",
-    ),
-];
-
-const PRINTED_IMPLICATIONS: [(&str, &str); 10] = [
-    ("if/a exists then/b exists", "if /a exists then /b exists"),
-    (
-        "if((/a exists or/b exists))then(if/c exists then/d exists)",
-        "if /a exists or /b exists then if /c exists then /d exists",
-    ),
-    (
-        "if(if/a exists then/b exists)then/c exists",
-        "if if /a exists then /b exists then /c exists",
-    ),
-    (
-        "not(if/a exists then/b exists)",
-        "not (if /a exists then /b exists)",
-    ),
-    (
-        "/c exists and(if/a exists then(/b exists and(if/ exists then/ exists)))",
-        "/c exists and (if /a exists then /b exists and (if / exists then / exists))",
-    ),
-    (
-        "at least 1 of((if/a exists then/b exists),any/(if/ exists then/ exists))",
-        "at least 1 of (if /a exists then /b exists, any / (if / exists then / exists))",
-    ),
-    ("keys/a in[]", "keys /a in []"),
-    (
         "keys\t^/ in[\"b\\/c\",\"\\u00e9\" , \"\"]",
         "keys ^/ in [\"b/c\", \"é\", \"\"]",
     ),
-    ("not(keys / in[\"b\"])", "not keys / in [\"b\"]"),
-    (
-        "each/lines((keys/ in[\"sku\"])or/ is text)",
-        "each /lines (keys / in [\"sku\"] or / is text)",
-    ),
 ];
-
-fn all_printed(rt: &impl Abort, alloc: Global, rows: &[(&str, &str)]) {
-    for (text, expected) in rows {
-        let same = prints(rt, alloc, text, expected);
-        assert!(rt; same, "{text}");
-    }
-}
 
 #[test]
 fn prints_rules(rt: HostRuntime) {
     let alloc = rt.alloc();
-    all_printed(&rt, alloc, &PRINTED_COMPARISONS);
-    all_printed(&rt, alloc, &PRINTED_CONDITIONS);
-    all_printed(&rt, alloc, &PRINTED_JOINS);
-    all_printed(&rt, alloc, &PRINTED_IMPLICATIONS)
+    for (text, expected) in PRINTED_CHARACTERS {
+        assert!(rt; prints(&rt, alloc, text, expected), "{text}");
+    }
+    all_printed(&rt, alloc, PRINTED_COMPARISONS);
+    all_printed(&rt, alloc, PRINTED_CONDITIONS);
+    all_printed(&rt, alloc, PRINTED_JOINS);
+    all_printed(&rt, alloc, PRINTED_IMPLICATIONS)
 }
 
 // What stands around one expression, and around and between two.

@@ -4,11 +4,11 @@ use super::reference::{
     Against, Answer, Test, denied, joined, push_rule, ranged, tested, value_of,
 };
 use super::{Expected, writes};
-use predicates_vet::settings::Report;
 use serde_json::Value;
 use std::alloc::Global;
 use std::fmt::Write;
 use std::process::Abort;
+use vet_run::settings::Report;
 
 const STATES: [Test<'static>; 5] = [
     ("/ exists", &[], "exists", Against::Nothing),

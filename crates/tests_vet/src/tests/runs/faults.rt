@@ -1,11 +1,11 @@
 //! A run byte by byte: with a fault at each byte that is read, or written as an answer or a
 //! message.
-use predicates_fakes::{Narrow, Slow};
-use predicates_vet::settings::{Report, Settings};
-use predicates_vet::{Counts, Job, RunFault, Streams, Tally, read_checks, run_records};
 use std::alloc::Global;
 use std::io::ErrorKind;
 use std::process::Abort;
+use tests_support::{Narrow, Slow};
+use vet_run::settings::{Report, Settings};
+use vet_run::{Counts, Job, RunFault, Streams, Tally, read_checks, run_records};
 
 const INPUT: &[u8] = b"{\"x\": 2}\n\xff\n1\n{\"x\": 1}\n{}";
 

@@ -1,59 +1,17 @@
 //! Rules that say what follows from another condition.
-use super::all_reported;
-use predicates_vet::settings::Report;
+use super::all_written;
+use vet_run::settings::Report;
 
-// What is reported, a rule, a record, and what is written of it, or nothing where the record keeps
-// the rule.
-const ROWS: [(Report, &str, &[u8], &[u8]); 8] = [
-    (
-        Report::First,
-        "a: if /x == 1 then /y == 2",
-        b"{\"x\": 1, \"y\": 3}",
-        b"\
-record 1: false
-a = false
-  rule: if /x == 1 then /y == 2 = false
+const ROWS: &str = r#"
+> a: if /x == 1 then /y == 2 <- {"x": 1, "y": 3}
     part: not /x == 1 = false
       predicate: /x == 1 = true
         - found: 1
     part: /y == 2 = false
       - found: 3
-",
-    ),
-    (
-        Report::First,
-        "a: if /x == 1 then /y == 2",
-        b"{\"x\": 2, \"y\": 3}",
-        b"",
-    ),
-    (
-        Report::First,
-        "a: if /x == 1 then /y == 2",
-        b"{\"x\": 1, \"y\": 2}",
-        b"",
-    ),
-    (
-        Report::Change,
-        "a: if /x == 1 then /y == 2",
-        b"{\"x\": 1, \"y\": 3}",
-        b"\
-record 1: false
-a = false
-  rule: if /x == 1 then /y == 2 = false
-    part: not /x == 1 = false
-      - index: 0
-      predicate: /x == 1 = true
-        - found: 1
-",
-    ),
-    (
-        Report::First,
-        "a: if /x == 1 or /z exists then /y == 2",
-        b"{\"x\": 1, \"y\": 3}",
-        b"\
-record 1: false
-a = false
-  rule: if /x == 1 or /z exists then /y == 2 = false
+> a: if /x == 1 then /y == 2 <- {"x": 2, "y": 3}
+> a: if /x == 1 then /y == 2 <- {"x": 1, "y": 2}
+> a: if /x == 1 or /z exists then /y == 2 <- {"x": 1, "y": 3}
     part: not (/x == 1 or /z exists) = false
       predicate: /x == 1 or /z exists = true
         part: /x == 1 = true
@@ -61,16 +19,7 @@ a = false
           - index: 0
     part: /y == 2 = false
       - found: 3
-",
-    ),
-    (
-        Report::First,
-        "a: if /x == 1 then if /y == 2 then /z missing",
-        b"{\"x\": 1, \"y\": 2, \"z\": 3}",
-        b"\
-record 1: false
-a = false
-  rule: if /x == 1 then if /y == 2 then /z missing = false
+> a: if /x == 1 then if /y == 2 then /z missing <- {"x": 1, "y": 2, "z": 3}
     part: not /x == 1 = false
       predicate: /x == 1 = true
         - found: 1
@@ -80,42 +29,31 @@ a = false
           - found: 2
       part: /z missing = false
         - found: 3
-",
-    ),
-    (
-        Report::First,
-        "a: not (if /x == 1 then /y == 2)",
-        b"{\"x\": 0}",
-        b"\
-record 1: false
-a = false
-  rule: not (if /x == 1 then /y == 2) = false
+> a: not (if /x == 1 then /y == 2) <- {"x": 0}
     predicate: if /x == 1 then /y == 2 = true
       part: not /x == 1 = true
         - index: 0
         predicate: /x == 1 = false
           - found: 0
-",
-    ),
-    (
-        Report::First,
-        "a: each /l (if /x exists then /y exists)",
-        b"{\"l\": [{}, {\"x\": 1}]}",
-        b"\
-record 1: false
-a = false
-  rule: each /l (if /x exists then /y exists) = false
+> a: each /l (if /x exists then /y exists) <- {"l": [{}, {"x": 1}]}
     item: if /x exists then /y exists = false
       - index: 1
       part: not /x exists = false
         predicate: /x exists = true
           - found: 1
       part: /y exists = false
-",
-    ),
-];
+"#;
+
+const CHANGED_ROWS: &str = r#"
+> a: if /x == 1 then /y == 2 <- {"x": 1, "y": 3}
+    part: not /x == 1 = false
+      - index: 0
+      predicate: /x == 1 = true
+        - found: 1
+"#;
 
 #[test]
 fn what_follows(rt: HostRuntime) {
-    all_reported(&rt, rt.alloc(), &ROWS)
+    all_written(&rt, rt.alloc(), Report::First, ROWS);
+    all_written(&rt, rt.alloc(), Report::Change, CHANGED_ROWS)
 }

@@ -1,10 +1,10 @@
 //! Records that are cut at each byte, and records with a byte changed: how many lines hold no
 //! record, and that the other records are told as before.
 use super::{run_of, settings_of};
-use predicates_vet::Counts;
-use predicates_vet::settings::Report;
 use std::alloc::Global;
 use std::process::Abort;
+use vet_run::Counts;
+use vet_run::settings::Report;
 
 const BEFORE: &[u8] = b"{\"id\": \"p\", \"x\": 1}\n";
 

@@ -1,10 +1,10 @@
 //! Rules that are cut at each byte, and rules with a byte changed: what they say then, or the place
 //! and the reason of the fault.
 use super::run_of;
-use predicates_vet::settings::{Report, Settings};
 use std::alloc::Global;
 use std::process::Abort;
 use std::str;
+use vet_run::settings::{Report, Settings};
 
 // The bytes as a text.
 fn text_of(rt: &impl Abort, alloc: Global, bytes: &[u8]) -> String {

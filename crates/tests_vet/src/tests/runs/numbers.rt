@@ -1,9 +1,9 @@
 //! Numbers in the order of their values: whole numbers exactly, any other as the nearest `f64`.
 use super::writes_block;
-use predicates_vet::settings::Report;
 use std::alloc::Global;
 use std::cmp::Ordering;
 use std::process::Abort;
+use vet_run::settings::Report;
 
 // Numbers of JSON, and how many values of the table are below.
 const FAR_BELOW_ZERO: [(&str, u32); 15] = [

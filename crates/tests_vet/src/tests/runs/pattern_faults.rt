@@ -1,5 +1,5 @@
 //! What is told of patterns that are no regular expressions.
-use predicates_rule_check::PatternFault;
+use vet_checks::PatternFault;
 
 #[test]
 fn faults_of_patterns(rt: HostRuntime) {

@@ -2,9 +2,9 @@
 //! whole.
 use super::combined::RECORDS;
 use super::{run_of, settings_of};
-use predicates_vet::settings::Report;
 use std::alloc::Global;
 use std::process::Abort;
+use vet_run::settings::Report;
 
 const RULES: &[u8] = b"a: /x exists\nb: any /l (/ == 1)";
 

@@ -1,12 +1,12 @@
 //! Paths that begin at the record, within a list of it.
 use predicates_core::reflection::{Case, render};
 use predicates_core::{Predicate, PredicateChange};
-use predicates_rule_check::check_of;
-use predicates_rules::condition::{Comparison, Condition};
-use predicates_rules::expression::{Expression, HowMany};
 use serde_json::Value;
 use std::alloc::Global;
 use std::process::Abort;
+use vet_checks::check_of;
+use vet_rules::condition::{Comparison, Condition};
+use vet_rules::expression::{Expression, HowMany};
 
 // The expression `QUANTIFIER LIST (PATH == OTHER)`.
 fn over_list(
@@ -71,121 +71,72 @@ fn breaks(
     told && turned && holds == reason.is_empty()
 }
 
-// A list, a path and another, a record, and the reason for which it breaks the rule that each item
-// has both alike.
-const ROWS: [(&str, &str, &str, &str, &str); 9] = [
-    (
-        "/l",
-        "/c",
-        "^/c",
-        "{\"c\": 1, \"l\": [{\"c\": 1}, {\"c\": 2}]}",
-        "\
+// Behind `> ` a list, a path and another, and a record; and the reason for which it breaks the rule
+// that each item has both alike.
+const ROWS: &str = r#"
+> /l /c ^/c <- {"c": 1, "l": [{"c": 1}, {"c": 2}]}
 each /l (/c == ^/c) = false
   item: /c == ^/c = false
     - found: 2
     - other: 1
     - index: 1
-",
-    ),
-    (
-        "/l",
-        "^/c",
-        "/c",
-        "{\"c\": 1, \"l\": [{\"c\": 1}, {\"c\": 2}]}",
-        "\
+> /l ^/c /c <- {"c": 1, "l": [{"c": 1}, {"c": 2}]}
 each /l (^/c == /c) = false
   item: ^/c == /c = false
     - found: 1
     - other: 2
     - index: 1
-",
-    ),
-    (
-        "/l",
-        "/c",
-        "^/c",
-        "{\"c\": \"EUR\", \"l\": [{\"c\": \"EUR\"}, {\"c\": \"EUR\"}]}",
-        "",
-    ),
-    (
-        "/l",
-        "/c",
-        "^/c",
-        "{\"l\": [{\"c\": 1}]}",
-        "\
+> /l /c ^/c <- {"c": "EUR", "l": [{"c": "EUR"}, {"c": "EUR"}]}
+> /l /c ^/c <- {"l": [{"c": 1}]}
 each /l (/c == ^/c) = false
   item: /c == ^/c = false
     - found: 1
     - error: nothing at ^/c
-",
-    ),
-    (
-        "/l",
-        "^/c",
-        "/c",
-        "{\"l\": [{\"c\": 1}]}",
-        "\
+> /l ^/c /c <- {"l": [{"c": 1}]}
 each /l (^/c == /c) = false
   item: ^/c == /c = false
     - error: nothing at ^/c
-",
-    ),
-    (
-        "/l",
-        "/c",
-        "^/c",
-        "{\"c\": \"1\", \"l\": [{\"c\": 1}]}",
-        "\
+> /l /c ^/c <- {"c": "1", "l": [{"c": 1}]}
 each /l (/c == ^/c) = false
   item: /c == ^/c = false
     - found: 1
-    - other: \"1\"
+    - other: "1"
     - error: not comparable with ^/c
-",
-    ),
-    (
-        "/l",
-        "/c",
-        "^",
-        "{\"l\": [{\"c\": 1}]}",
-        "\
+> /l /c ^ <- {"l": [{"c": 1}]}
 each /l (/c == ^/) = false
   item: /c == ^/ = false
     - found: 1
-    - other: {\"l\":[{\"c\":1}]}
+    - other: {"l":[{"c":1}]}
     - error: not comparable with ^/
-",
-    ),
-    (
-        "^/l",
-        "",
-        "^/l/0",
-        "{\"l\": [3, 4]}",
-        "\
+> ^/l  ^/l/0 <- {"l": [3, 4]}
 each ^/l (/ == ^/l/0) = false
   item: / == ^/l/0 = false
     - found: 4
     - other: 3
     - index: 1
-",
-    ),
-    (
-        "^/m",
-        "/c",
-        "^/c",
-        "{\"c\": 1}",
-        "each ^/m (/c == ^/c) = false\n  - error: nothing at ^/m\n",
-    ),
-];
+> ^/m /c ^/c <- {"c": 1}
+each ^/m (/c == ^/c) = false
+  - error: nothing at ^/m
+"#;
+
+// Whether it breaks the rule for this reason.
+fn is_row_right(rt: &impl Abort, alloc: Global, row: &str) -> bool {
+    let (head, lines) = row.split_once('\n').unwrap_or((row, ""));
+    let (places, record) = head.split_once(" <- ").unwrap_or((head, ""));
+    let (list, paths) = places.split_once(' ').unwrap_or((places, ""));
+    let (path, other) = paths.split_once(' ').unwrap_or((paths, ""));
+    let each = over_list(rt, alloc, HowMany::Each, list, path, other);
+    let lines = lines.strip_suffix('\n').unwrap_or(lines);
+    let end = if lines.is_empty() { "" } else { "\n" };
+    let reason = format!(in alloc; "{lines}{end}").expect(rt, "memory");
+    breaks(rt, alloc, each, record, &reason, None)
+}
 
 #[test]
 fn paths_from_the_record(rt: HostRuntime) {
-    for (list, path, other, record, reason) in ROWS {
-        let each = over_list(&rt, rt.alloc(), HowMany::Each, list, path, other);
-        assert!(rt;
-            breaks(&rt, rt.alloc(), each, record, reason, None),
-            "{record}"
-        );
+    for row in ROWS.split("\n> ") {
+        let is_right = row.is_empty() || is_row_right(&rt, rt.alloc(), row);
+        assert!(rt; is_right, "{row}");
     }
 }
 

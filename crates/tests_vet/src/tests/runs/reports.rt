@@ -1,14 +1,14 @@
 //! What a run writes by its report, its labels, the name of its input, and how much may be written;
 //! and what it counts.
 use super::{settings_of, writes_block};
-use predicates_lines::MAX_LINE;
-use predicates_vet::settings::Report;
-use predicates_vet::{
+use std::alloc::Global;
+use std::process::Abort;
+use streams::MAX_LINE;
+use vet_run::settings::Report;
+use vet_run::{
     Counts, InputFormat, Job, ReadChecksError, RulesFault, Streams, Tally, read_checks,
     run_records, summary,
 };
-use std::alloc::Global;
-use std::process::Abort;
 
 const RULES: &[u8] = b"a: /x == 1\nb: /y == 2\nc: /t matches \"^[a-c]*$\"";
 

@@ -2,34 +2,45 @@
 ghost use Rattle.std.specs.Prelude.{◌≡◌, option_copied};
 
 use super::super::around::{Asked, Counts};
+use crate::tests::made::Host;
 use predicates::part::Field;
 use predicates::prelude::*;
-use std::alloc::Global;
-use std::process::Abort;
+use std::cell::Cell;
+use std::fmt;
 
-#[derive(Debug, Drop)]
+// Numbers, of which one may be absent, and how often the other was read.
+#[derive(Drop)]
 struct Numbered {
     number: u32,
     other: Option<u32>,
+    reads: Cell<usize>,
 }
 
-fn five() -> Numbered {
+impl fmt::Debug for Numbered {
+    fn fmt<W: fmt::Write>(&self, f: &mut fmt::Formatter<W>) -> fmt::Result {
+        f.write_str("numbered")
+    }
+}
+
+fn five(other: Option<u32>) -> Numbered {
     Numbered {
         number: 5,
-        other: Some(7),
+        other,
+        reads: Cell::new(0),
     }
 }
 
 fn number_of(item: &Numbered) -> &u32
     ensures { result.now ≡ item.now.number }
 {
+    item.reads.set(item.reads.get().saturating_add(1));
     &item.number
 }
 
 fn number_by_value(item: &Numbered) -> u32
     ensures { result ≡ item.now.number }
 {
-    item.number
+    *number_of(item)
 }
 
 fn other_of(item: &Numbered) -> &Option<u32>
@@ -51,142 +62,49 @@ impl Field<Numbered, u32> for TheNumber {
     ghost part_of = { λ field item. item.number };
 
     fn get<'a>(&self, item: &'a Numbered) -> &'a u32 {
-        &item.number
+        number_of(item)
     }
 }
 
-fn of_value<P: PredicateChange<u32> + Drop>(
-    rt: &impl Abort,
-    alloc: Global,
-    asked: Asked<'_>,
-    part: P,
-) -> Counts
-    requires { P.lawful part }
+// How often the calls ask the predicate for its part.
+fn reads<P: PredicateChange<Numbered> + Drop>(rt: &impl Host, asked: Asked<'_>, of: P) -> Counts
+    requires { P.lawful of }
 {
-    asked.counts(rt, alloc, part.of("n", number_by_value), five())
+    let item = five(None);
+    let cell = &item.reads;
+    Asked { cell, ..asked }.of(rt, of, &item)
 }
 
-fn of_reference<P: PredicateChange<u32> + Drop>(
-    rt: &impl Abort,
-    alloc: Global,
-    asked: Asked<'_>,
-    part: P,
-) -> Counts
-    requires { P.lawful part }
-{
-    asked.counts(rt, alloc, part.of_ref("n", number_of), five())
-}
-
-fn of_field<P: PredicateChange<u32> + Drop>(
-    rt: &impl Abort,
-    alloc: Global,
-    asked: Asked<'_>,
-    part: P,
-) -> Counts
-    requires { P.lawful part }
-{
-    asked.counts(rt, alloc, part.of_field("n", TheNumber), five())
-}
-
-fn of_optional<P: PredicateChange<u32> + Drop>(
-    rt: &impl Abort,
-    alloc: Global,
-    asked: Asked<'_>,
-    part: P,
-) -> Counts
-    requires { P.lawful part }
-{
-    asked.counts(rt, alloc, part.of_some_ref("other", maybe_other), five())
-}
-
-fn of_no_ref(rt: &impl Abort, alloc: Global, asked: Asked<'_>) -> Counts {
-    let item = Numbered {
-        number: 5,
-        other: None,
-    };
-    let other = asked.leaf::<u32>().of_some_ref("other", maybe_other);
-    asked.counts(rt, alloc, other, item)
-}
-
-fn of_some_of_ref(rt: &impl Abort, alloc: Global, asked: Asked<'_>) -> Counts {
+fn of_some_of_ref(rt: &impl Host, asked: Asked<'_>) -> Counts {
     let other = asked.leaf::<u32>().of_some().of_ref("other", other_of);
-    asked.counts(rt, alloc, other, five())
+    asked.alone(rt, other, five(Some(7)))
 }
 
-fn of_some<P: PredicateChange<u32> + Drop>(
-    rt: &impl Abort,
-    alloc: Global,
-    asked: Asked<'_>,
-    part: P,
-) -> Counts
-    requires { P.lawful part }
-{
-    asked.counts(rt, alloc, part.of_some(), Some(5u32))
-}
-
-fn of_none(rt: &impl Abort, alloc: Global, asked: Asked<'_>) -> Counts {
-    let none: Option<u32> = None;
-    asked.counts(rt, alloc, asked.leaf::<u32>().of_some(), none)
-}
-
-fn of_ok<P: PredicateChange<u32> + Drop>(
-    rt: &impl Abort,
-    alloc: Global,
-    asked: Asked<'_>,
-    part: P,
-) -> Counts
-    requires { P.lawful part }
-{
-    let item: Result<u32, u8> = Ok(5);
-    asked.counts(rt, alloc, part.of_ok(), item)
-}
-
-fn of_err<P: PredicateChange<u32> + Drop>(
-    rt: &impl Abort,
-    alloc: Global,
-    asked: Asked<'_>,
-    part: P,
-) -> Counts
-    requires { P.lawful part }
-{
-    let item: Result<u8, u32> = Err(5);
-    asked.counts(rt, alloc, part.of_err(), item)
-}
-
-// The parts that are a leaf.
-fn of_leaf(rt: &impl Abort, alloc: Global, name: &str, asked: Asked<'_>) -> Option<Counts> {
+// The parts of a `Numbered`.
+fn of_struct(rt: &impl Host, name: &str, asked: Asked<'_>) -> Option<Counts> {
+    let (some, none) = (five(Some(7)), five(None));
     Some(match name {
-        "of" => of_value(rt, alloc, asked, asked.leaf()),
-        "of_ref" => of_reference(rt, alloc, asked, asked.leaf()),
-        "of_field" => of_field(rt, alloc, asked, asked.leaf()),
-        "of_some" => of_some(rt, alloc, asked, asked.leaf()),
-        "of_some_ref" => of_optional(rt, alloc, asked, asked.leaf()),
-        "no_ref" => of_no_ref(rt, alloc, asked),
-        "of_some_of_ref" => of_some_of_ref(rt, alloc, asked),
-        "absent" => of_none(rt, alloc, asked),
-        "of_ok" => of_ok(rt, alloc, asked, asked.leaf()),
-        "of_err" => of_err(rt, alloc, asked, asked.leaf()),
+        "of" => counts_in!(rt, asked, |n: u32| n.of("n", number_by_value), some),
+        "of_ref" => counts_in!(rt, asked, |n: u32| n.of_ref("n", number_of), some),
+        "of_field" => counts_in!(rt, asked, |n: u32| n.of_field("n", TheNumber), some),
+        "of_some_ref" => counts_in!(rt, asked, |n: u32| n.of_some_ref("o", maybe_other), some),
+        "no_ref" => counts_in!(rt, asked, |n: u32| n.of_some_ref("o", maybe_other), none),
+        "of_some_of_ref" => of_some_of_ref(rt, asked),
+        "reads_of" => reads(rt, asked, predicate::ge(1u32).of("n", number_by_value)),
+        "reads_of_ref" => reads(rt, asked, predicate::ge(1u32).of_ref("n", number_of)),
+        "reads_of_field" => reads(rt, asked, predicate::ge(1u32).of_field("n", TheNumber)),
         _ => return None,
     })
 }
 
-// Those that are two under `and`.
-fn of_both(rt: &impl Abort, alloc: Global, name: &str, asked: Asked<'_>) -> Option<Counts> {
+pub fn counts_of(rt: &impl Host, name: &str, asked: Asked<'_>) -> Option<Counts> {
+    let (some, none): (Option<u32>, Option<u32>) = (Some(5), None);
+    let (ok, err): (Result<u32, u8>, Result<u8, u32>) = (Ok(5), Err(5));
     Some(match name {
-        "and_of" => of_value(rt, alloc, asked, asked.both()),
-        "and_of_ref" => of_reference(rt, alloc, asked, asked.both()),
-        "and_of_field" => of_field(rt, alloc, asked, asked.both()),
-        "and_of_some_ref" => of_optional(rt, alloc, asked, asked.both()),
-        "and_of_some" => of_some(rt, alloc, asked, asked.both()),
-        "and_of_ok" => of_ok(rt, alloc, asked, asked.both()),
-        "and_of_err" => of_err(rt, alloc, asked, asked.both()),
-        _ => return None,
+        "of_some" => counts_in!(rt, asked, |n: u32| n.of_some(), some),
+        "absent" => counts_in!(rt, asked, |n: u32| n.of_some(), none),
+        "of_ok" => counts_in!(rt, asked, |n: u32| n.of_ok(), ok),
+        "of_err" => counts_in!(rt, asked, |n: u32| n.of_err(), err),
+        _ => return of_struct(rt, name, asked),
     })
-}
-
-pub fn counts_of(rt: &impl Abort, alloc: Global, name: &str, asked: Asked<'_>) -> Option<Counts> {
-    if let Some(counts) = of_leaf(rt, alloc, name, asked) {
-        return Some(counts);
-    }
-    of_both(rt, alloc, name, asked)
 }

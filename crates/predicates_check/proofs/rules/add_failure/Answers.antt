@@ -1,6 +1,0 @@
-use Rattle.std.proofs.Common.{rules}
-use Rattle.predicates_check.specs.Told.{one}
-use Rattle.predicates_check.proofs.rules.add_failure.Goals as goal
-
-pub returns-in_ok-push-in-Some-clause-added : goal.returns-in_ok-push-in-Some-clause-added
-returns-in_ok-push-in-Some-clause-added g c = one c.in-Some.case (search rules) (search rules)

@@ -1,5 +1,0 @@
-use Rattle.predicates_dynamic.specs.Sizes.{left_over}
-use Rattle.predicates_dynamic.proofs.check.Check.drop.Given as goal
-
-abbrev pub decreases-loop-next : goal.decreases-loop-next
-decreases-loop-next g l = left_over l.self l.waiting

@@ -1,3 +1,0 @@
-mod Joining
-mod Moving
-mod Taking

@@ -1,7 +1,0 @@
--- What was taken ends no record, and what is kept of it is in the buffer.
-use Rattle.std.proofs.Common.{false}
-use Rattle.predicates_records.proofs.Taking.{Taken}
-use Rattle.predicates_records.proofs.read.next_record.Given as goal
-
-abbrev pub invariant-loop : goal.invariant-loop
-invariant-loop g l = Taken (g.R.Read.remaining l.initial.input) (g.R.Read.remaining l.input) l.initial.position false l.position l.value.items l.most

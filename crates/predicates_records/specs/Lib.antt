@@ -1,4 +1,0 @@
-pub mod Gaps
-pub mod Records
-pub mod Runs
-pub mod Steps

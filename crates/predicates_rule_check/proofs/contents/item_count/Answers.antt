@@ -1,6 +1,0 @@
-use Rattle.std.proofs.Common.{rules, ◌∙◌}
-use Rattle.predicates_rule_check.proofs.Rows.{items_counted}
-use Rattle.predicates_rule_check.proofs.contents.item_count.Goals as goal
-
-pub returns : goal.returns
-returns c = (search rules) ∙ items_counted c.args.items.now.items

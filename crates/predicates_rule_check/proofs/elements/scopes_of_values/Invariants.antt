@@ -1,9 +1,0 @@
-use Rattle.std.proofs.Common.{◌≡◌, ◌++◌, map}
-use Rattle.std.specs.BTreeMap.{values}
-use Rattle.serde_json.specs.View.{view}
-use Rattle.predicates_rule_check.specs.Scopes.{place_of}
-use Rattle.predicates_rule_check.proofs.Listing.{place_in}
-use Rattle.predicates_rule_check.proofs.elements.scopes_of_values.Given as goal
-
-abbrev pub invariant-loop-item : goal.invariant-loop-item
-invariant-loop-item l = map place_of l.scopes.items ++ map (place_in (view l.fn.whole)) l.item-iterator ≡ map (place_in (view l.fn.whole)) (values l.members)

@@ -1,6 +1,0 @@
-use Rattle.std.proofs.Common.{ℕ, List, subst}
-use Rattle.regex.specs.Failures.{HasSpanIn}
-use Rattle.predicates_rule_check.proofs.pattern.Pattern.read.Goals as goal
-
-pub of_error-requires : goal.of_error-requires
-of_error-requires c = record { within = subst (λ (s : List ℕ). HasSpanIn s c.in-Err.error) c.deref.ensures c.in-Err.ensures.span }

@@ -1,6 +1,0 @@
-use Rattle.std.proofs.Common.{ℕ, List, sym, subst}
-use Rattle.regex.specs.Failures.{HasSpanIn}
-use Rattle.predicates_rule_check.proofs.pattern_fault.PatternFault.of_error.Goals as goal
-
-pub column-column-requires : goal.column-column-requires
-column-column-requires c = record { within = subst (λ (s : List ℕ). HasSpanIn s c.args.error) (sym c.deref.ensures) c.requires.within }

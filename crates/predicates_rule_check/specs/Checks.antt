@@ -1,6 +1,0 @@
--- What a check of the code is, as a tree.
-use Rattle.predicates_rule_check.specs.declared.check.Check.{Check}
-use Rattle.predicates_rule_check.specs.CheckTrees.{CheckTree, check_tree}
-
-abbrev pub tree_of_check : Check → CheckTree
-tree_of_check c = check_tree c.tree

@@ -1,5 +1,0 @@
-use Rattle.predicates_rules.proofs.Laying.{then_ok}
-use Rattle.predicates_rules.proofs.display.condition.fmt_among.Goals as goal
-
-pub returns : goal.returns
-returns g c = then_ok _ _ c.fmt_token.result c.in_ok-next.ensures (then_ok _ _ c.fmt_token.result c.in_ok-next-2.ensures c.fmt_token.ensures)

@@ -1,8 +1,0 @@
-use Rattle.std.proofs.Common.{rules, tests}
-use Rattle.std.proofs.lemmas.Iterator.{YieldsList-from_chars}
-use Rattle.std.proofs.lemmas.Iterator.Search.{any_from_yields_List}
-use Rattle.predicates_rules.specs.Lexemes.{is_masked}
-use Rattle.predicates_rules.proofs.lexer.masks.Goals as goal
-
-pub returns : goal.returns
-returns c = any_from_yields_List is_masked _ _ c.any.result c.any.ensures.ran (YieldsList-from_chars c.args.text.now c.utf8.text cc) (λ x b q k. search (rules, tests))

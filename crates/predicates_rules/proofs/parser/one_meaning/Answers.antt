@@ -1,5 +1,0 @@
-use Rattle.predicates_rules.proofs.Grow.{one_tree}
-use Rattle.predicates_rules.proofs.parser.one_meaning.Goals as goal
-
-pub returns : goal.returns
-returns c = one_tree

@@ -1,5 +1,0 @@
-use Rattle.predicates_rules.proofs.Readings.{left_is}
-use Rattle.predicates_rules.proofs.reader.bytes_left.Goals as goal
-
-pub returns : goal.returns
-returns c = rw (c.first_of.ensures, c.behind.ensures, c.saturating_sub.ensures) (left_is c.args.tokens.now c.args.left)

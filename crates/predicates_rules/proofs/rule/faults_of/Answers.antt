@@ -1,6 +1,0 @@
-use Rattle.std.proofs.Common.{map}
-use Rattle.predicates_rules.proofs.Files.{faults_found}
-use Rattle.predicates_rules.proofs.rule.faults_of.Goals as goal
-
-pub returns : goal.returns
-returns c = faults_found (map (λ x. x.now) c.args.lines.now) c.in_ok-findings.findings c.in_ok-findings.ensures

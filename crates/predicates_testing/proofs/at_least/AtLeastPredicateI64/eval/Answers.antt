@@ -1,8 +1,0 @@
-use Rattle.std.proofs.Common.{refl}
-use Rattle.predicates_testing.proofs.Called.{has-call, eval-narrower}
-use Rattle.predicates_testing.proofs.at_least.AtLeastPredicateI64.eval.Goals as goal
-
-pub returns-clause-truth : goal.returns-clause-truth
-returns-clause-truth c = eval-narrower c.eval.result
-    (λ g h. has-call c.function.ensures.function c.function.ensures.name (record { shown = c.args.item; shows = refl; says = record { met = refl } }) h)
-    c.eval.ensures.truth

@@ -1,7 +1,0 @@
-use Rattle.std.proofs.Common.{◌≡◌, ◌++◌, take}
-use Rattle.std.specs.Prelude.{option_map, flat_map}
-use Rattle.predicates_vet.specs.Records.{error_of}
-use Rattle.predicates_vet.proofs.annotations.push_errors.Given as goal
-
-abbrev pub invariant-loop-case : goal.invariant-loop-case
-invariant-loop-case l = l.lines.items ≡ l.initial.lines.items ++ flat_map (error_of (option_map (λ s. s.now) l.position.file) l.position.line l.position.opening.now) (take l.case-index l.cases)

@@ -1,6 +1,0 @@
-use Rattle.std.proofs.Common.{◌≡◌, ◌++◌, take}
-use Rattle.predicates_vet.specs.GitHub.{message_text}
-use Rattle.predicates_vet.proofs.github.push_message.Given as goal
-
-abbrev pub invariant-loop-byte : goal.invariant-loop-byte
-invariant-loop-byte l = l.line.items ≡ l.initial.line.items ++ message_text (take l.byte-index l.text)

@@ -1,9 +1,0 @@
-//! The file of rules.
-use predicates_rule_check::RuleCheck;
-
-/// The path of a file, and the rules that stand there.
-#[derive(Clone, Copy)]
-pub(crate) struct RuleFile<'r> {
-    pub(crate) path: &'r str,
-    pub(crate) rules: &'r [RuleCheck],
-}

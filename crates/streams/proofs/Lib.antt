@@ -1,0 +1,5 @@
+mod Joining
+mod Moving
+mod Parts
+mod Splitting
+mod Taking

@@ -1,0 +1,46 @@
+use Rattle.std.proofs.Common.{◌≡◌, ◌≢◌, ◌-◌, All, Ok, take, refl, sym, ap, subst, ◌∙◌, rules, arith, eq-eqb, eqb-true, get_or, get_or-take, length-take-le}
+use Rattle.std.proofs.lemmas.List.Elements.{All-more}
+use Rattle.std.specs.Io.BufRead.{FillKeeps, DropsConsumable}
+use Rattle.std.proofs.BufReadLemmas.{Consumes_shown, zero_unless_positive}
+use Rattle.std.proofs.Transfers.{StopsAt-take}
+use Rattle.streams.proofs.Parts.{took_none}
+use Rattle.streams.proofs.within.take_part.Goals.{then-end-eq0, else-end-eq0}
+use Rattle.streams.proofs.within.take_part.Goals as goal
+
+pub returns-then-eq-clause-part : goal.returns-then-eq-clause-part
+returns-then-eq-clause-part g c = took_none _ _ _ _ _ _ refl c.fill_buf.follows.holds-at-none.0 (λ e. cc)
+
+pub returns-else-eq-clause-part : goal.returns-else-eq-clause-part
+returns-else-eq-clause-part g c = took_none _ _ _ _ _ _ refl c.fill_buf.follows.holds-at-none.0 (λ e. cc)
+
+pub returns-in_err-extend_from_slice-clause-part : goal.returns-in_err-extend_from_slice-clause-part
+returns-in_err-extend_from_slice-clause-part g c = took_none _ _ _ _ _ _ c.in_err-extend_from_slice.ensures.items c.fill_buf.follows.holds-at-none.0 (search rules)
+
+pub returns-clause-part : goal.returns-clause-part
+returns-clause-part g c =
+    let shown = c.in-Ok.shown.now in
+    let end = c.len_through-end in
+    let long = length-take-le end.result shown end.ensures.bound in
+    let rested = c.fill_buf.follows.lender-at-none in
+    let filled = subst (FillKeeps _ (g.R.Read.remaining rested) (g.R.BufRead.consumable_len rested)) c.in-Ok.is c.fill_buf.follows.holds-at-none in
+    let same : c.if-end-eq0.input ≡ rested = search rules in
+    let drops = subst (λ r. DropsConsumable (g.R.Read.remaining r) (g.R.Read.remaining c.consume.new.self) (g.R.BufRead.consumable_len r) end.result) same c.consume.ensures.bytes in
+    let moved = Consumes_shown _ _ _ _ shown end.result end.ensures.bound c.in-Ok.ensures.front c.in-Ok.ensures.end filled.0 filled.1 drops in
+    record {
+      part = take end.result shown;
+      joined = c.in_ok-extend_from_slice.ensures.items;
+      short = omega (arith, long, end.ensures.most);
+      taken = moved.0;
+      inside = λ more. elim c.if-end-eq0.branch [
+        | then-end-eq0 w ↦ absurd (more (ap Ok (search rules)))
+        | else-end-eq0 w ↦ subst (λ k. All (λ x. x ≢ 10) (take k shown)) (omega (arith, w.if-end-eq0.false))
+            (All-more (λ x. x ≢ 10) _ (end.result - 1) 0 (omega (arith, w.if-end-eq0.false, end.ensures.bound)) end.ensures.before (λ e. more (ap Ok (w.is_ended-is ∙ eq-eqb _ _ e))))
+      ];
+      stops = StopsAt-take _ _ _ end.ensures.bound end.ensures.before;
+      ends = λ done some. elim c.if-end-eq0.branch [
+        | then-end-eq0 w ↦ absurd (omega (arith, w.if-end-eq0.true))
+        | else-end-eq0 w ↦ ap (λ n. get_or (take end.result shown) (n - 1) 0) long
+            ∙ get_or-take end.result shown (end.result - 1) 0 (omega arith) ∙ eqb-true _ _ (sym w.is_ended-is ∙ search rules)
+      ];
+      none = λ _ none. moved.1 (zero_unless_positive _ _ (λ some. end.ensures.some some c.requires) (sym long ∙ none));
+    }

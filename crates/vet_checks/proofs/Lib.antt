@@ -1,0 +1,11 @@
+mod Alike
+mod Leaving
+mod Listing
+mod LiteralSets
+mod Numbers
+mod OtherKeys
+mod Places
+mod CheckFormulas
+mod Refusing
+mod Rows
+mod Ruling

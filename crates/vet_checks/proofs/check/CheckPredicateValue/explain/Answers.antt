@@ -1,0 +1,9 @@
+use Rattle.vet_checks.proofs.CheckFormulas.{all_lawful, found_of_check}
+use Rattle.vet_checks.specs.CheckTrees.{check_tree}
+use Rattle.vet_checks.proofs.check.CheckPredicateValue.explain.Goals as goal
+
+pub explain-requires : goal.explain-requires
+explain-requires c = all_lawful (check_tree c.args.self.now.tree)
+
+pub returns : goal.returns
+returns c = found_of_check (record { whole = c.args.item; item = c.args.item }) (check_tree c.args.self.now.tree) c.args.wanted c.in_ok-found.found c.in_ok-found.ensures

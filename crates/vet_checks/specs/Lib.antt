@@ -1,0 +1,15 @@
+pub mod Alike
+pub mod Patterns
+pub mod Numbers
+pub mod Scopes
+pub mod Keys
+pub mod Questions
+pub mod Lists
+pub mod CheckTrees
+pub mod CheckLaws
+pub mod ViewLaws
+pub mod Nodes
+pub mod Checks
+pub mod Compiled
+pub mod RuleChecks
+pub mod Refusals
