@@ -1,5 +1,5 @@
 //! A leaf, a stored function, and combinators over leaves.
-ghost use Rattle.std.specs.Prelude.{◌≡◌};
+ghost use Rattle.std.specs.Prelude.{◌≡◌, true};
 
 use super::super::around::{Asked, Counts};
 use crate::tests::made::Host;
