@@ -1,0 +1,9 @@
+//! Laws of what a run writes, as contracts of calls that do nothing.
+ghost use Rattle.vet_run.specs.Together.{ShowTogether};
+
+/// What `--change` shows of each rule that a record breaks is together the first change of all
+/// rules: of all changes by which the record keeps every rule none is smaller, and of the smallest
+/// ones none comes before it.
+pub fn changes_together()
+    ensures { ShowTogether }
+{}
