@@ -1,9 +1,10 @@
 -- Why no checks are made of a text, and what is told of its lines.
-use Rattle.std.proofs.Common.{◌≡◌, ◌≢◌, inl, inr, ◌⊎◌, ℕ, zero, suc, ◌+◌, ◌-◌, ◌<◌, ◌≤◌, ◌==◌, nat_eq, Bool, true, false, not, ◌&&◌, cond, List, [], ◌∷◌, ◌++◌, map, length, take, drop, reverse, Option, Some, None, true≢false, refl, sym, ap, subst, ◌∙◌, arith, append_assoc, append-nil, length-append}
-use Rattle.std.specs.Prelude.{Any, option_to_list, string_bytes}
+use Rattle.std.proofs.Common.{◌≡◌, ◌≢◌, inl, inr, ◌⊎◌, ℕ, zero, suc, ◌+◌, ◌-◌, ◌<◌, ◌≤◌, ◌==◌, nat_eq, Bool, true, false, not, ◌&&◌, cond, List, [], ◌∷◌, ◌++◌, map, length, take, drop, reverse, Option, Some, None, Result, Ok, Err, true≢false, refl, sym, ap, subst, ◌∙◌, arith, append_assoc, append-nil, length-append, get_or, Bor}
+use Rattle.std.specs.Prelude.{Any, option_to_list, slice_get, string_bytes, IfOk}
+use Rattle.std.specs.declared.alloc.AllocError.{AllocError}
 use Rattle.std.specs.List.{slice_split, onto_first, starts_with, list_any}
 use Rattle.std.specs.Str.{chars}
-use Rattle.std.proofs.lemmas.List.{reverse-append, reverse-reverse}
+use Rattle.std.proofs.lemmas.List.{reverse-append, reverse-reverse, length-map}
 use Rattle.std.proofs.lemmas.Slice.Eq.{bytes_eq-Decides}
 use Rattle.vet_rules.specs.declared.fault.Fault.{Fault}
 use Rattle.vet_rules.specs.declared.rule.Rule.{Rule}
@@ -17,7 +18,9 @@ use Rattle.vet_checks.specs.declared.check_error.CheckError.TheVariants.{NoMemor
 use Rattle.vet_checks.specs.Refusals.{IsFailure, IsPatternIn, IsRefused}
 use Rattle.vet_run.specs.declared.rule_fault.RuleFault.{RuleFault}
 use Rattle.vet_run.specs.declared.rule_fault.RuleFault.TheVariants as rule_faults
-use Rattle.vet_run.specs.RulesFile.{HasNoCheck, SaysNoChecks, IsToldOfRule, Tells, no_rule, a_rule as told_rule, HasTold, none_yet as none_told, one_line as line_told, most_told, AreTold, all_told, more_told, IsTaken, IsOneLine, IsToldOf, IsToldOn, IsToldAt}
+use Rattle.vet_run.specs.declared.rules_file.ReadChecksError.{ReadChecksError}
+use Rattle.vet_run.specs.declared.rules_file.ReadChecksError.TheVariants as unread
+use Rattle.vet_run.specs.RulesFile.{HasNoCheck, SaysNoChecks, IsRefusalOf, IsRejected, IsToldOfRule, Tells, no_rule, a_rule as told_rule, HasTold, none_yet as none_told, one_line as line_told, most_told, AreTold, all_told, more_told, IsTaken, IsOneLine, IsToldOf, IsToldOn, IsToldAt}
 
 -- ---- patterns
 
@@ -46,6 +49,10 @@ no_checks text rules e only fault is h = λ rs d.
     let p : IsFailure (InAny rules) (Pattern fault) = subst (IsFailure (InAny rules)) is h in
     let any = p.0 in
     subst (Any HasNoCheck) (only rs d) (any.0, any.1, any.2, any.3, (fault, any.4, p.1))
+
+pub rejected : (text : List ℕ) (e : ReadChecksError) → SaysNoChecks text → IsRefusalOf text e → IsRejected text e
+rejected text unread.NoMemory none h = tt
+rejected text (unread.Unreadable told) none h = (none, h)
 
 -- ---- lines
 
@@ -163,15 +170,21 @@ none_is : (o : Option A_rule) → [] ≡ option_to_list o → o ≡ None
 none_is None e = refl
 none_is (Some r) e = absurd cc
 
-pub told_of_last : (number : ℕ) (line : List ℕ) (rules front : List Rule) (x : Rule) (told : Option RuleFault) → ((rs : List A_rule) → AreRulesOf max_depth line rs → map rule_of rules ≡ rs) → rules ≡ front ++ x ∷ [] → IsToldOfRule number (rule_of x) told → IsToldOn number line told
+told_of_last : (number : ℕ) (line : List ℕ) (rules front : List Rule) (x : Rule) (told : Option RuleFault) → ((rs : List A_rule) → AreRulesOf max_depth line rs → map rule_of rules ≡ rs) → rules ≡ front ++ x ∷ [] → IsToldOfRule number (rule_of x) told → IsToldOn number line told
 told_of_last number line rules front x told only is h = λ o single l.
     let e : o ≡ Some (rule_of x) = last_is front x o (ap (map rule_of) (sym is) ∙ only (option_to_list o) (rules_alone line o single l)) in
     rw e h
 
-pub told_of_none : (number : ℕ) (line : List ℕ) (rules : List Rule) → ((rs : List A_rule) → AreRulesOf max_depth line rs → map rule_of rules ≡ rs) → rules ≡ [] → IsToldOn number line None
-told_of_none number line rules only is = λ o single l.
-    let e : o ≡ None = none_is o (ap (map rule_of) (sym is) ∙ only (option_to_list o) (rules_alone line o single l)) in
+pub told_of_one : (number : ℕ) (line : List ℕ) (rules front : List Rule) (x : Rule) (r : Result (Option RuleFault) AllocError) → ((rs : List A_rule) → AreRulesOf max_depth line rs → map rule_of rules ≡ rs) → rules ≡ front ++ x ∷ []
+    → IfOk r (IsToldOfRule number (rule_of x)) → IfOk r (IsToldOn number line)
+told_of_one number line rules front x (Ok told) only is h = told_of_last number line rules front x told only is h
+told_of_one number line rules front x (Err e) only is h = tt
+
+pub told_of_none : (number : ℕ) (line : List ℕ) (rules : List Rule) → ((rs : List A_rule) → AreRulesOf max_depth line rs → map rule_of rules ≡ rs) → length rules ≡ 0 → IsToldOn number line None
+told_of_none number line [] only is = λ o single l.
+    let e : o ≡ None = none_is o (only (option_to_list o) (rules_alone line o single l)) in
     rw e refl
+told_of_none number line (x ∷ rules) only is = absurd cc
 
 pub told_of_no_rules : (number : ℕ) (line : List ℕ) (told : Option RuleFault) → ((rs : List A_rule) → AreRulesOf max_depth line rs → ⊥) → IsToldOn number line told
 told_of_no_rules number line told never = λ o single l. absurd (never (option_to_list o) (rules_alone line o single l))
@@ -234,7 +247,7 @@ later (goes {i = i} {rs = rs} {more = more} {fs = fs} {others = others} {line = 
 abbrev pub Going : List (List ℕ) → ℕ → List Fault → List RuleFault → Type 0
 Going lines i others ts = (m : ℕ) × (rs : List Placed) × (most_faults ≤ m + length ts) × Left lines m i rs (reverse others) × HasTold lines i rs ts
 
-pub going_at_start : (lines : List (List ℕ)) (fs others : List Fault) → HasFaults lines fs → others ≡ reverse fs → Going lines 0 others []
+going_at_start : (lines : List (List ℕ)) (fs others : List Fault) → HasFaults lines fs → others ≡ reverse fs → Going lines 0 others []
 going_at_start lines fs others h e =
     (most_faults, [], omega arith, subst (Left lines most_faults 0 []) (sym (ap reverse e ∙ reverse-reverse fs)) (left_at_start lines fs h), none_told)
 
@@ -266,7 +279,7 @@ module _ {lines : List (List ℕ)} {i : ℕ} {line : List ℕ} {rest : List (Lis
       let more : List Placed = (i + 1, r) ∷ [] in
       (m - 0, rs ++ more, omega (arith, enough, length-append ts (option_to_list told)), subst (Left lines (m - 0) (i + 1) (rs ++ more)) (sym e) left, line_told at before_it (told_rule r told (a_rule r l new) (on (Some r) single l)))
 
-  pub next_told : (told : Option RuleFault) → i < length lines → length ts ≤ most_told → IsOneLine line → Going lines i before ts → IsToldAt (i + 1) line before after told → Next lines i after ts told
+  next_told : (told : Option RuleFault) → i < length lines → length ts ≤ most_told → IsOneLine line → Going lines i before ts → IsToldAt (i + 1) line before after told → Next lines i after ts told
   next_told told within small single (m, rs, enough, left, told_before) is = by_left left refl
     where
       by_added : {more : List Placed} {others : List Fault} (fs : List Fault) → Adds (i + 1) line rs more fs → Left lines (m - length fs) (i + 1) (rs ++ more) others → reverse before ≡ fs ++ others
@@ -290,9 +303,64 @@ module _ {lines : List (List ℕ)} {i : ℕ} {line : List ℕ} {rest : List (Lis
           let same : own ≡ line = cc in
           by_added fs (subst (λ z. Adds (i + 1) z rs more fs) same added) left (sym e) (few added) is
 
--- nothing more is left
-pub told_all : (lines : List (List ℕ)) (i : ℕ) (others : List Fault) (ts : List RuleFault) → length lines ≤ i → length ts ≤ most_told → Going lines i others ts → AreTold lines ts
-told_all lines i others ts le small (m, rs, enough, left, told) = all_told told le small
+-- ---- the last fault
 
-pub told_more : (lines : List (List ℕ)) (i : ℕ) (others : List Fault) (ts : List RuleFault) (t : RuleFault) → length ts ≡ most_told → Going lines i others (ts ++ t ∷ []) → AreTold lines (ts ++ rule_faults.More ∷ [])
-told_more lines i others ts t is (m, rs, enough, left, told) = more_told ts t told is
+pub last_split : (fs : List Fault) (k : ℕ) (f : Fault) → k ≡ length fs - 1 → Some f ≡ slice_get fs k → (before : List Fault) × (fs ≡ before ++ f ∷ [])
+last_split [] k f is e = absurd cc
+last_split (g ∷ []) zero f is e = ([], cc)
+last_split (g ∷ []) (suc k) f is e = absurd (omega (arith, is))
+last_split (g ∷ h ∷ fs) zero f is e = absurd (omega (arith, is))
+last_split (g ∷ h ∷ fs) (suc k) f is e = let s = last_split (h ∷ fs) k f (omega (arith, is)) e in (g ∷ s.0, ap (λ z. g ∷ z) s.1)
+
+pub same_last : (before others : List Fault) (f g : Fault) → before ++ f ∷ [] ≡ others ++ g ∷ [] → f ≡ g
+same_last [] [] f g e = cc
+same_last [] (x ∷ []) f g e = absurd cc
+same_last [] (x ∷ y ∷ others) f g e = absurd cc
+same_last (x ∷ []) [] f g e = absurd cc
+same_last (x ∷ y ∷ before) [] f g e = absurd cc
+same_last (x ∷ before) (y ∷ others) f g e = same_last before others f g cc
+
+-- ---- a loop over borrowed lines
+
+abbrev pub texts : List (Bor (List ℕ)) → List (List ℕ)
+texts lines = map (λ (x : Bor (List ℕ)). x.now) lines
+
+line_here : (lines : List (Bor (List ℕ))) (i : ℕ) (d : Bor (List ℕ)) → i < length lines → drop i (texts lines) ≡ (get_or lines i d).now ∷ drop (suc i) (texts lines)
+line_here [] i d lt = absurd (omega arith)
+line_here (l ∷ lines) zero d lt = refl
+line_here (l ∷ lines) (suc i) d lt = line_here lines i d (omega arith)
+
+pub go_on : (text : List ℕ) (lines : List (Bor (List ℕ))) (i : ℕ) (d : Bor (List ℕ)) (before after : List Fault) (ts : List RuleFault) (told : Option RuleFault) → texts lines ≡ lines_of text → i < length lines → length ts ≤ most_told
+    → Going (texts lines) i before ts → IsToldAt (i + 1) (get_or lines i d).now before after told → Going (texts lines) (i + 1) after (ts ++ option_to_list told)
+go_on text lines i d before after ts told is lt small going at =
+    let here = line_here lines i d lt in
+    let single = line_single text i (get_or lines i d).now (drop (suc i) (texts lines)) (ap (drop i) (sym is) ∙ here) in
+    let long = length-map lines (λ (x : Bor (List ℕ)). x.now) in
+    next_told here before after ts told (omega (arith, long, lt)) small single going at
+
+pub one_told : (lines : List (List ℕ)) (i : ℕ) (others : List Fault) (ts all : List RuleFault) (told : Option RuleFault) (t : RuleFault) → told ≡ Some t → all ≡ ts ++ t ∷ [] → length ts ≤ most_told → length ts ≢ most_told
+    → Going lines i others (ts ++ option_to_list told) → Going lines i others all × (length all ≤ most_told)
+one_told lines i others ts all told t is e small other going =
+    let one : ts ++ option_to_list told ≡ all = ap (λ z. ts ++ option_to_list z) is ∙ sym e in
+    let long : length all ≡ length ts + 1 = ap length e ∙ length-append ts (t ∷ []) in
+    (subst (Going lines i others) one going, omega (arith, long, small, other))
+
+pub none_told_there : (lines : List (List ℕ)) (i : ℕ) (others : List Fault) (ts all : List RuleFault) (told : Option RuleFault) → told ≡ None → all ≡ ts → length ts ≤ most_told
+    → Going lines i others (ts ++ option_to_list told) → Going lines i others all × (length all ≤ most_told)
+none_told_there lines i others ts all told is e small going =
+    let one : ts ++ option_to_list told ≡ all = ap (λ z. ts ++ option_to_list z) is ∙ append-nil ts ∙ sym e in
+    (subst (Going lines i others) one going, rw e small)
+
+pub cut_off : (text : List ℕ) (lines : List (Bor (List ℕ))) (i : ℕ) (others : List Fault) (ts all : List RuleFault) (told : Option RuleFault) (t : RuleFault) → texts lines ≡ lines_of text → told ≡ Some t → all ≡ ts ++ rule_faults.More ∷ [] → length ts ≡ most_told
+    → Going (texts lines) i others (ts ++ option_to_list told) → AreTold (lines_of text) all
+cut_off text lines i others ts all told t at is e full (m, rs, enough, left, have) =
+    let one : ts ++ option_to_list told ≡ ts ++ t ∷ [] = ap (λ z. ts ++ option_to_list z) is in
+    rw (← at, e) (more_told ts t (subst (HasTold (texts lines) i rs) one have) full)
+
+pub told_to_end : (text : List ℕ) (lines : List (Bor (List ℕ))) (i : ℕ) (others : List Fault) (ts : List RuleFault) → texts lines ≡ lines_of text → length lines ≤ i → length ts ≤ most_told → Going (texts lines) i others ts → AreTold (lines_of text) ts
+told_to_end text lines i others ts at le small (m, rs, enough, left, have) =
+    let long = length-map lines (λ (x : Bor (List ℕ)). x.now) in
+    rw (← at) (all_told have (omega (arith, long, le)) small)
+
+pub begin : (text : List ℕ) (lines : List (Bor (List ℕ))) (fs others : List Fault) (ts : List RuleFault) → texts lines ≡ lines_of text → HasFaults (lines_of text) fs → others ≡ reverse fs → ts ≡ [] → Going (texts lines) 0 others ts
+begin text lines fs others ts at h e none = rw (at, none) (going_at_start (lines_of text) fs others h e)

@@ -77,6 +77,10 @@ module _ (name : List ℕ) (d : Data) where
       by_truth q (p ∷ qs) true is h = let ih = by_truth p qs (truth (formula_on d p)) refl h in omega (arith, ih)
       by_truth q (p ∷ qs) false is h = rw is (omega arith)
 
+is_false : (k : ℕ) (label : Label) (fs : Formulas) → decisive false k fs ≤ like false fs (actual_of_parts fs) → truth (AtLeast k label fs) ≡ false
+unfolding truth actual
+is_false k label fs h = by_reached false k label fs (actual_of_parts fs) h
+
 pub shown_together : ShowTogether
 shown_together label name d r rs cases breaks h =
     let fs = formulas_of name (formula_on d) r rs in
@@ -90,7 +94,3 @@ shown_together label name d r rs cases breaks h =
     let s = shared name d r rs cases h in
     let quota_is : many (is_like false) fs ≡ suc (like false fs (actual_of_parts fs)) - decisive false n fs = omega (arith, one_decides, like_is) in
     (s.0, first_of_threshold false n label fs fails changes s.0 (subst (λ m. IsSelected changes (is_like false) m fs s.0) quota_is s.1), s.2)
-  where
-    is_false : (k : ℕ) (label : Label) (fs : Formulas) → decisive false k fs ≤ like false fs (actual_of_parts fs) → truth (AtLeast k label fs) ≡ false
-    unfolding truth actual
-    is_false k label fs h = by_reached false k label fs (actual_of_parts fs) h
