@@ -36,8 +36,8 @@ none_selected fs (suc m) S e h = absurd (omega (arith, e))
 -- leaves of other parts alone
 behind : (n : List ℕ) (f : Formula) (fs : Formulas) (m : ℕ) (S : List ℕ) → is_like false f ≡ false → IsSelected changes (is_like false) m fs S
     → IsSelected changes (is_like false) m (more n f fs) (shifted (size f) S)
-behind n f fs zero S no h = rw h refl
-behind n f fs (suc m) S no h = ([], S, refl, inr (no, refl, h))
+behind n f fs zero S other h = rw h refl
+behind n f fs (suc m) S other h = ([], S, refl, inr (other, refl, h))
 
 module _ (name : List ℕ) (d : Data) where
   last_shared : (r : RuleCheck) (cases : List (Tree CaseNode)) (b : Bool) → truth (formula_on d r) ≡ b → AllZip ExplainsChange (cond b [] (formula_on d r ∷ [])) cases → Shared name d r [] cases (one_if (beq b false))
@@ -52,12 +52,20 @@ module _ (name : List ℕ) (d : Data) where
       → AllZip ExplainsChange (cond b (broken (q ∷ rs) d) (formula_on d r ∷ broken (q ∷ rs) d)) cases → Shared name d r (q ∷ rs) cases (one_if (beq b false) + m)
   more_shared r q rs cases m true is rest h =
       let s = rest cases h in
-      (shifted (size (formula_on d r)) s.0, behind name (formula_on d r) (formulas_of name (formula_on d) q rs) m s.0 (rw is refl) s.1, ([], s.0, shifted_is (size (formula_on d r)) s.0, inl (is, refl, s.2)))
+      let S = shifted (size (formula_on d r)) s.0 in
+      let fs = formulas_of name (formula_on d) r (q ∷ rs) in
+      let same : IsSelected changes (is_like false) m fs S = behind name (formula_on d r) (formulas_of name (formula_on d) q rs) m s.0 (rw is refl) s.1 in
+      let count : m ≡ 0 + m = omega arith in
+      (S, subst (λ k. IsSelected changes (is_like false) k fs S) count same, ([], s.0, shifted_is (size (formula_on d r)) s.0, inl (is, refl, s.2)))
   more_shared r q rs [] m false is rest h = absurd h
   more_shared r q rs (c ∷ cs) m false is rest h =
       let s = rest cs h.1 in
       let L = h.0.leaves in
-      (L ++ shifted (size (formula_on d r)) s.0, (L, s.0, refl, inl (rw is refl, h.0.first, s.1)), (L, s.0, ap (λ z. L ++ z) (shifted_is (size (formula_on d r)) s.0), inr (is, (c, cs, refl, h.0.shown, s.2))))
+      let S = L ++ shifted (size (formula_on d r)) s.0 in
+      let fs = formulas_of name (formula_on d) r (q ∷ rs) in
+      let one_more : IsSelected changes (is_like false) (suc m) fs S = (L, s.0, refl, inl (rw is refl, h.0.first, s.1)) in
+      let count : suc m ≡ 1 + m = omega arith in
+      (S, subst (λ k. IsSelected changes (is_like false) k fs S) count one_more, (L, s.0, ap (λ z. L ++ z) (shifted_is (size (formula_on d r)) s.0), inr (is, (c, cs, refl, h.0.shown, s.2))))
 
   shared : (r : RuleCheck) (rs : List RuleCheck) (cases : List (Tree CaseNode)) → AllZip ExplainsChange (broken (r ∷ rs) d) cases
       → Shared name d r rs cases (many (is_like false) (formulas_of name (formula_on d) r rs))
