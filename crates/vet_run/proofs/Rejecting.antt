@@ -1,8 +1,8 @@
 -- Why no checks are made of a text, and what is told of its lines.
-use Rattle.std.proofs.Common.{◌≡◌, ◌≢◌, inl, inr, ◌⊎◌, ℕ, zero, suc, ◌+◌, ◌-◌, ◌<◌, ◌≤◌, ◌==◌, nat_eq, Bool, true, false, not, ◌&&◌, cond, List, [], ◌∷◌, ◌++◌, map, length, take, drop, reverse, Option, Some, None, Result, Ok, Err, true≢false, refl, sym, ap, subst, ◌∙◌, arith, append_assoc, append-nil, length-append, get_or, Bor}
+use Rattle.std.proofs.Common.{◌≡◌, ◌≢◌, inl, inr, ◌⊎◌, ℕ, zero, suc, ◌+◌, ◌-◌, ◌<◌, ◌≤◌, ◌==◌, nat_eq, Bool, true, false, ◌&&◌, List, [], ◌∷◌, ◌++◌, map, length, take, drop, reverse, Option, Some, None, Result, Ok, Err, true≢false, refl, sym, ap, subst, ◌∙◌, arith, append_assoc, append-nil, length-append, get_or, Bor}
 use Rattle.std.specs.Prelude.{Any, option_to_list, slice_get, string_bytes, IfOk}
 use Rattle.std.specs.declared.alloc.AllocError.{AllocError}
-use Rattle.std.specs.List.{slice_split, onto_first, starts_with, list_any}
+use Rattle.std.specs.List.{slice_split, onto_first, starts_with}
 use Rattle.std.specs.Str.{chars}
 use Rattle.std.proofs.lemmas.List.{reverse-append, reverse-reverse, length-map}
 use Rattle.std.proofs.lemmas.Slice.Eq.{bytes_eq-Decides}
@@ -10,17 +10,17 @@ use Rattle.vet_rules.specs.declared.fault.Fault.{Fault}
 use Rattle.vet_rules.specs.declared.rule.Rule.{Rule}
 use Rattle.vet_rules.specs.Trees.{Tree}
 use Rattle.vet_rules.specs.Grammar.{max_depth}
-use Rattle.vet_rules.specs.Lexemes.{is_shown, is_hidden}
+use Rattle.vet_rules.specs.Lexemes.{is_shown}
 use Rattle.vet_rules.specs.Rules.{IsLine, blank, rule, bare, quoted, AreRulesOf, AreRules, no_more, skipped, taken, AreApart, mark, without_mark, lines_of, rule_of}
 use Rattle.vet_rules.specs.Faults.{Placed, Adds, nothing, a_rule, a_repeat, no_line, HasRead, none_yet, one_line, HasFaults, most_faults}
 use Rattle.vet_checks.specs.declared.check_error.CheckError.{CheckError}
 use Rattle.vet_checks.specs.declared.check_error.CheckError.TheVariants.{NoMemory, Pattern}
-use Rattle.vet_checks.specs.Refusals.{IsFailure, IsPatternIn, IsRefused}
+use Rattle.vet_checks.specs.Refusals.{IsFailure, IsPatternIn}
 use Rattle.vet_run.specs.declared.rule_fault.RuleFault.{RuleFault}
 use Rattle.vet_run.specs.declared.rule_fault.RuleFault.TheVariants as rule_faults
 use Rattle.vet_run.specs.declared.rules_file.ReadChecksError.{ReadChecksError}
 use Rattle.vet_run.specs.declared.rules_file.ReadChecksError.TheVariants as unread
-use Rattle.vet_run.specs.RulesFile.{HasNoCheck, SaysNoChecks, IsRefusalOf, IsRejected, IsToldOfRule, Tells, no_rule, a_rule as told_rule, HasTold, none_yet as none_told, one_line as line_told, most_told, AreTold, all_told, more_told, IsTaken, IsOneLine, IsToldOf, IsToldOn, IsToldAt}
+use Rattle.vet_run.specs.RulesFile.{HasNoCheck, SaysNoChecks, IsRefusalOf, IsRejected, IsToldOfRule, no_rule, a_rule as told_rule, HasTold, none_yet as none_told, one_line as line_told, most_told, AreTold, all_told, more_told, IsOneLine, IsToldOn, IsToldAt}
 
 -- ---- patterns
 

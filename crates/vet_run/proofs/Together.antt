@@ -1,15 +1,14 @@
 -- The changes of the rules that a record breaks are together the first change of all rules.
-use Rattle.std.proofs.Common.{◌≡◌, ◌⊎◌, inl, inr, ℕ, zero, suc, ◌+◌, ◌-◌, ◌≤◌, List, [], ◌∷◌, ◌++◌, map, length, Bool, true, false, cond, refl, sym, ap, subst, ◌∙◌, arith, append-nil}
+use Rattle.std.proofs.Common.{◌≡◌, inl, inr, ℕ, zero, suc, ◌+◌, ◌-◌, ◌≤◌, List, [], ◌∷◌, ◌++◌, map, length, Bool, true, false, cond, refl, sym, ap, subst, arith, append-nil}
 use Rattle.std.specs.Prelude.{◌&&◌}
 use Rattle.std.specs.List.{AllZip}
 use mathlib.Core.Bool.{beq}
 use Rattle.serde_json.specs.Data.{Data}
 use Rattle.predicates_core.specs.Label.{Label}
-use Rattle.predicates_core.specs.Formula.{Formula, Formulas, one, more, AtLeast, size, truth, actual, actual_of_parts, number_of_parts, needed, one_if}
-use Rattle.predicates_core.specs.Kinds.{changes, First}
-use Rattle.predicates_core.specs.Change.{ExplainsChange, IsFirstChange}
+use Rattle.predicates_core.specs.Formula.{Formula, Formulas, more, AtLeast, size, truth, actual, actual_of_parts, number_of_parts, needed, one_if}
+use Rattle.predicates_core.specs.Kinds.{changes}
+use Rattle.predicates_core.specs.Change.{ExplainsChange}
 use Rattle.predicates_core.specs.Several.{formulas_of}
-use Rattle.predicates_core.specs.Shows.{Shows}
 use Rattle.predicates_core.specs.Tree.{Tree}
 use Rattle.predicates_core.specs.Describe.{CaseNode}
 use Rattle.predicates_core.proofs.Numbers.{shifted}
@@ -19,7 +18,7 @@ use Rattle.predicates_core.proofs.Selection.{IsSelected}
 use Rattle.predicates_core.proofs.FirstOf.{first_of_threshold}
 use Rattle.vet_checks.specs.declared.rule_check.RuleCheck.{RuleCheck}
 use Rattle.vet_run.specs.Records.{formula_on, keeps, broken}
-use Rattle.vet_run.specs.Together.{formula_of_all, AreShownBy, ShowTogether}
+use Rattle.vet_run.specs.Together.{AreShownBy, ShowTogether}
 
 shifted_is : (n : ℕ) (R : List ℕ) → shifted n R ≡ map (λ k. n + k) R
 shifted_is n [] = refl

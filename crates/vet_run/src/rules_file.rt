@@ -85,11 +85,7 @@ impl<T: Drop> From<AllocFailed<T>> for ReadChecksError {
 const MOST_FAULTS: usize = 20;
 
 // The fault of the rule's pattern, if it has one.
-fn pattern_fault(
-    alloc: Global,
-    number: usize,
-    rule: Rule,
-) -> Result<Option<RuleFault>, AllocError>
+fn pattern_fault(alloc: Global, number: usize, rule: Rule) -> Result<Option<RuleFault>, AllocError>
     ensures { IfOk result (IsToldOfRule number (rule_of rule)) }
 {
     let Rule { name, expression } = rule;
@@ -158,7 +154,9 @@ fn fault_at(
 fn lines_of<'a>(alloc: Global, text: &'a [u8]) -> Result<Vec<&'a [u8]>, AllocError>
     ensures { IfOk result (λ lines. map (λ line. line.now) lines.items ≡ lines_of text.now) }
 {
-    without_mark(text).split(|byte| *byte == b'\n').collect(alloc)
+    without_mark(text)
+        .split(|byte| *byte == b'\n')
+        .collect(alloc)
 }
 
 // The fault of each line that has one.
