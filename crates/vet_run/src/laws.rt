@@ -2,8 +2,7 @@
 ghost use Rattle.vet_run.specs.Together.{ShowTogether};
 
 /// What `--change` shows of each rule that a record breaks is together the first change of all
-/// rules: of all changes by which the record keeps every rule none is smaller, and of the smallest
-/// ones none comes before it.
+/// rules, each of which has to hold.
 pub fn changes_together()
     ensures { ShowTogether }
 {}
