@@ -5,6 +5,7 @@ pub mod Viewed
 pub mod Formulas
 pub mod Listed
 pub mod Described
+pub mod Kept
 pub mod Laws
 pub mod Sizes
 pub mod Depth

@@ -6,6 +6,7 @@ ghost use Rattle.predicates_core.specs.Several.{further_texts, listed_text};
 ghost use Rattle.predicates_core.specs.Thresholds.{counted_text};
 ghost use Rattle.predicates_core.specs.Formula.{HasTruth};
 ghost use Rattle.predicates_core.specs.Label.{value_of};
+ghost use Rattle.predicates_tree.specs.Kept.{AreSteps};
 ghost use Rattle.predicates_tree.specs.Trees.{tree_of, words_of, AllOf, AsksAll};
 ghost use Rattle.predicates_tree.specs.Formulas.{check_text, own_text, Has, tree_formula};
 ghost use Rattle.predicates_tree.specs.Quotas.{row_text, member_words, members_text};
@@ -394,6 +395,8 @@ impl<L, V, S: Wording> Check<L, V, S> {
             (Has L.output V.output L.formula V.gives V.absence_of S.words item.now self.now)) }
         ensures infallible { AsksAll L.infallible V.lends V.gives S.words item.now self.now
             → IsOk result }
+        // Of what the run keeps nothing is changed but by its leaves, in turn.
+        ensures keeps { AreSteps L.keeps context.old context.new }
     {
         holds(alloc, self, context, item)
     }

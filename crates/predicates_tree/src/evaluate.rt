@@ -1,5 +1,5 @@
 //! Predicates that are evaluated with what a run keeps.
-ghost use Rattle.std.specs.Prelude.{IfOk, IsOk};
+ghost use Rattle.std.specs.Prelude.{◌≡◌, IfOk, IsOk};
 ghost use Rattle.predicates_core.specs.Formula.{HasTruth};
 
 use predicates_core::Predicate;
@@ -10,6 +10,9 @@ use std::alloc::{AllocError, Global};
 ///
 /// Every predicate is one with `NoContext`.
 pub trait EvaluateWith<Item, Context>: Predicate<Item> {
+    // What a call may make of what the run keeps.
+    ghost keeps: { Context → Context → Type 0 } = { λ _ _. Unit {0} };
+
     /// As `eval`, with what the run keeps. Only the time and the memory that it takes depend on
     /// that.
     fn eval_with(
@@ -20,7 +23,8 @@ pub trait EvaluateWith<Item, Context>: Predicate<Item> {
     ) -> Result<bool, AllocError>
         requires { Self.lawful self.now }
         ensures truth { IfOk result (HasTruth (Self.formula self.now item.now)) }
-        ensures infallible { Self.infallible self.now item.now → IsOk result };
+        ensures infallible { Self.infallible self.now item.now → IsOk result }
+        ensures keeps { keeps context.old context.new };
 }
 
 /// What a run keeps for predicates that need nothing.
@@ -28,6 +32,8 @@ pub trait EvaluateWith<Item, Context>: Predicate<Item> {
 pub struct NoContext;
 
 impl<P: Predicate<Item>, Item> EvaluateWith<Item, NoContext> for P {
+    ghost keeps = { λ before after. after ≡ before };
+
     fn eval_with(
         &self,
         alloc: Global,

@@ -6,6 +6,7 @@ ghost use Rattle.predicates_core.specs.Label.{Entry};
 ghost use Rattle.predicates_tree.specs.Trees.{AllAsked, AllOf, tree_of, Words};
 ghost use Rattle.predicates_tree.specs.Trees.{AsksAll, Not, Named, Pair, Members};
 ghost use Rattle.predicates_tree.specs.Formulas.{Has, HasFormula, HasOn};
+ghost use Rattle.predicates_tree.specs.Kept.{AreSteps};
 ghost use Rattle.predicates_tree.specs.Quotas.{IsOfQuota};
 
 use crate::check::Check;
@@ -30,6 +31,7 @@ pub(crate) fn holds<L: EvaluateWith<Item, C>, V: View<Item>, S: Wording, Item, C
         (Has L.output V.output L.formula V.gives V.absence_of S.words item.now check.now)) }
     ensures infallible { AsksAll L.infallible V.lends V.gives S.words item.now check.now
         → IsOk result }
+    ensures keeps { AreSteps L.keeps context.old context.new }
 {
     match check {
         Check::Leaf(leaf) => leaf.eval_with(alloc, context, item),
@@ -82,6 +84,7 @@ fn not_holds<L: EvaluateWith<Item, C>, V: View<Item>, S: Wording, Item, C>(
         (Not w (tree_of S.words inner.now))) held) }
     ensures infallible { AsksAll L.infallible V.lends V.gives S.words item.now inner.now
         → IsOk result }
+    ensures keeps { AreSteps L.keeps context.old context.new }
 {
     let held = holds(alloc, inner, context, item)?;
     Ok(!held)
@@ -101,6 +104,7 @@ fn named_holds<L: EvaluateWith<Item, C>, V: View<Item>, S: Wording, Item, C>(
         (Named name (tree_of S.words inner.now))) held) }
     ensures infallible { AsksAll L.infallible V.lends V.gives S.words item.now inner.now
         → IsOk result }
+    ensures keeps { AreSteps L.keeps context.old context.new }
 {
     let held = holds(alloc, inner, context, item)?;
     Ok(held)
@@ -134,6 +138,7 @@ fn pair_holds<L: EvaluateWith<Item, C>, V: View<Item>, S: Wording, Item, C>(
         (tree_of S.words right_part.now))) held) }
     ensures infallible { AsksAll L.infallible V.lends V.gives S.words item.now right_part.now
         → IsOk result }
+    ensures keeps { AreSteps L.keeps context.old context.new }
 {
     let operator = left.operator;
     if !operator.asks(left.found) {
@@ -159,6 +164,7 @@ fn parts_hold<L: EvaluateWith<Item, C>, V: View<Item>, S: Wording, Item, C>(
         held) }
     ensures infallible { AllByRecursion
         (AsksAll L.infallible V.lends V.gives S.words item.now) parts.now → IsOk result }
+    ensures keeps { AreSteps L.keeps context.old context.new }
 {
     let mut held = 0usize;
     for (index, part) in parts.iter().enumerate() {
@@ -194,6 +200,7 @@ fn viewed_hold<L: EvaluateWith<Item, C>, V: View<Item>, S: Wording, Item, C>(
     ensures infallible { (w : Words) → AllAsked L.infallible V.lends V.gives
         viewed.entry.item.now
         (Members w quota viewed.entry.view.now (tree_of S.words inner.now)) → IsOk result }
+    ensures keeps { AreSteps L.keeps context.old context.new }
 {
     match viewed.view.list(alloc, viewed.item)? {
         Some(members) => {
@@ -220,6 +227,7 @@ fn members_hold<L: EvaluateWith<Item, C>, V: View<Item>, S: Wording, Item, C>(
         members.now) held) }
     ensures infallible { AllByRecursion (λ member. AsksAll L.infallible V.lends V.gives
         S.words member inner.now) members.now → IsOk result }
+    ensures keeps { AreSteps L.keeps context.old context.new }
 {
     let mut held = 0usize;
     for (index, member) in members.iter().enumerate() {

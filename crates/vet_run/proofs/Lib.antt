@@ -5,7 +5,9 @@ mod Keeping
 mod Listing
 mod Ranking
 mod Reading
+mod Rejecting
 mod Running
 mod Taking
 mod Telling
+mod Together
 mod Trimming

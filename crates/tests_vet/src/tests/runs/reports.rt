@@ -327,7 +327,7 @@ fn summaries(rt: HostRuntime) {
 }
 
 // Rules that are not read, and what is told of them.
-const FAULTS: [(&[u8], &str); 5] = [
+const FAULTS: [(&[u8], &str); 6] = [
     (
         b"a: / >=\nb: / exists\nc: / ==",
         "\
@@ -346,6 +346,11 @@ vet: rules: line 3, column 8: expected a literal or a path, found the end of the
     ),
     (
         b"a: / exists\na: / exists",
+        "vet: rules: line 2, column 1: the name `a` stands on line 1 already\n",
+    ),
+    // Of a line whose name is taken no pattern is told.
+    (
+        b"a: / exists\na: / matches \"[\"",
         "vet: rules: line 2, column 1: the name `a` stands on line 1 already\n",
     ),
     // A line for each, of patterns too.
