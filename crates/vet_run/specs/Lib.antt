@@ -12,4 +12,5 @@ pub mod RulesFile
 pub mod Runs
 pub mod Settings
 pub mod Summaries
+pub mod Sums
 pub mod Xml
