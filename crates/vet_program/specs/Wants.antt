@@ -1,7 +1,7 @@
 -- What the words want of the program.
 use Rattle.std.specs.Prelude.{◌≡◌, false, codes}
 use Rattle.clap.specs.declared.parser.matches.Found.{Found}
-use Rattle.vet_run.specs.Settings.{id_of}
+use Rattle.vet_run.specs.Settings.{block_style, id_of}
 use Rattle.vet_program.specs.Words.{IsFlag, IsNumber, clashes, format_of, report_by}
 use Rattle.vet_program.specs.Words.{label_of, input_of}
 use Rattle.vet_program.specs.declared.flags.Flags.{Flags}
@@ -19,6 +19,7 @@ pub record IsWanted (found : Found) (wanted : Wanted) : Type 0 where
   pub allowed : clashes flags ≡ false
   pub report : wanted.settings.report ≡ report_by flags
   pub id : id_of wanted.settings ≡ label_of found
+  pub style : wanted.settings.style ≡ block_style
   pub summary : IsFlag found (codes "summary") wanted.summary
   pub input : wanted.input ≡ input_of found
   pub most : IsNumber found (codes "max") wanted.most

@@ -67,12 +67,8 @@ pub(crate) fn wanted_of(
         return Ok(None);
     }
     let id = label_of(alloc, matches)?;
-    let settings = Settings {
-        report: flags.report(),
-        id,
-    };
     Ok(Some(Wanted {
-        settings,
+        settings: Settings::new(flags.report(), id),
         input: input_named(matches.get_str("input-format")),
         summary: matches.get_flag("summary"),
         most: most_of(matches),
