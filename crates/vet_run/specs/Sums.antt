@@ -12,6 +12,8 @@ use Rattle.vet_run.specs.InputLines.{is_unreadable, record_on, record_taken}
 use Rattle.vet_run.specs.Objects.{listed, quoted}
 use Rattle.vet_run.specs.Summaries.{Named}
 use Rattle.vet_run.specs.declared.counts.Counts.{Counts}
+use Rattle.vet_run.specs.declared.summary.NoSum.{NoSum}
+use Rattle.vet_run.specs.declared.summary.NoSum.TheVariants.{OtherRules, TooMany}
 use Rattle.vet_run.specs.declared.summary.RuleCount.{RuleCount}
 use Rattle.vet_run.specs.declared.summary.Summary.{Summary}
 
@@ -64,6 +66,11 @@ abbrev pub fits : Sum → Bool
 fits s =
     fits_one s.records && (fits_one s.failed && (fits_one s.unreadable
     && list_all (λ (r : Named). fits_one r.1) s.rules))
+
+-- why there is no sum
+abbrev pub no_sum_text : NoSum → List ℕ
+no_sum_text OtherRules = codes "not by the same rules"
+no_sum_text TooMany = codes "more than 64 bits count"
 
 -- what is counted of the lines of an input
 abbrev pub counted_over : List RuleCheck → List (Option (List ℕ)) → Sum

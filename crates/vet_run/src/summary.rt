@@ -6,6 +6,7 @@ ghost use Rattle.vet_checks.specs.declared.rule_check.RuleCheck as check;
 ghost use Rattle.vet_run.specs.Counting.{AreCounted, all_counted};
 ghost use Rattle.vet_run.specs.Summaries.{rows_of, IsSummary};
 ghost use Rattle.vet_run.specs.Sums.{both, both_rules, counted_over, fits, fits_one, named_of};
+ghost use Rattle.vet_run.specs.Sums.{no_sum_text};
 ghost use Rattle.vet_run.specs.Sums.{rule_names, sum_json, sum_of, sum_told};
 ghost use Rattle.vet_run.specs.declared.read_summary.ReadSummaryError.TheVariants.{NoMemory};
 ghost use Rattle.vet_run.specs.declared.summary.NoSum.TheVariants as no_sum;
@@ -16,6 +17,8 @@ use crate::summary_json::summary_json;
 use crate::summary_lines::{count_at, summary_lines};
 use crate::tally::Tally;
 use std::alloc::{AllocError, Global};
+use std::error::Error;
+use std::fmt;
 use vet_checks::RuleCheck;
 
 /// A rule's name, and how many records break it.
@@ -42,6 +45,19 @@ pub enum NoSum {
     /// 64 bits do not hold a count.
     TooMany,
 }
+
+impl fmt::Display for NoSum {
+    ghost output = { λ fault. Some (no_sum_text fault) };
+
+    fn fmt<W: fmt::Write>(&self, f: &mut fmt::Formatter<W>) -> fmt::Result {
+        match self {
+            NoSum::OtherRules => f.write_str("not by the same rules"),
+            NoSum::TooMany => f.write_str("more than 64 bits count"),
+        }
+    }
+}
+
+impl Error for NoSum {}
 
 // Whether the rules have the same names, in the same order.
 fn have_same_names(left: &[RuleCount], right: &[RuleCount]) -> bool
@@ -100,9 +116,8 @@ impl Summary {
     /// It takes memory for the rules' names.
     ///
     /// ```
-    /// let tally = Tally::of_rules(alloc, &rules, None)?;
     /// let summary = Summary::of(alloc, &rules, &tally)?;
-    /// assert!(rt; summary.rules.len() == rules.len());
+    /// assert!(rt; summary.rules.len() == 2 && summary.counts.records == 0);
     /// ```
     pub fn of(alloc: Global, rules: &[RuleCheck], tally: &Tally) -> Result<Summary, AllocError>
         ensures counts { IfOk result (λ summary. summary.counts ≡ tally.now.counts) }
@@ -111,7 +126,7 @@ impl Summary {
         ensures over { IfOk result (λ summary. (lines : List (Option (List ℕ)))
             → AreCounted rules.now lines Counts.NONE tally.now.counts
             → tally.now.broken.items
-                ≡ all_counted rules.now lines (replicate (length rules.now) 0)
+            ≡ all_counted rules.now lines (replicate (length rules.now) 0)
             → sum_of summary ≡ counted_over rules.now lines) }
     {
         let mut counted = Vec::new(alloc);
@@ -132,10 +147,8 @@ impl Summary {
     /// the whole counts.
     ///
     /// ```
-    /// let tally = Tally::of_rules(alloc, &rules, None)?;
-    /// let one = Summary::of(alloc, &rules, &tally)?;
-    /// let two = Summary::of(alloc, &rules, &tally)?;
-    /// assert!(rt; one.plus(&two).is_ok_and(|sum| sum.counts.records == 0));
+    /// let sum = Summary::of(alloc, &rules, &tally)?.plus(&summary);
+    /// assert!(rt; sum.is_ok_and(|sum| sum.counts.records == 0));
     /// ```
     pub fn plus(self, other: &Summary) -> Result<Summary, NoSum>
         ensures sum { IfOk result (λ sum. sum_of sum ≡ both (sum_of self) (sum_of other.now)) }
@@ -169,6 +182,11 @@ impl Summary {
     /// has a `#` for each record, or where a rule is broken by more than 40, for as many as it takes
     /// for none to be longer; then a last line says for how many. It takes memory for the lines and
     /// a row for each rule.
+    ///
+    /// ```
+    /// let lines = summary.lines(alloc)?;
+    /// assert!(rt; lines.as_str() == "0    a\n0    b\n");
+    /// ```
     pub fn lines(&self, alloc: Global) -> Result<String, AllocError>
         ensures { IfOk result (λ text.
             IsSummary (map named_of self.now.rules.items) (string_bytes text)) }
@@ -179,6 +197,11 @@ impl Summary {
     /// One object of JSON, without spaces and line feeds, as
     /// `{"records":4,"failed":1,"unreadable":0,"rules":[{"rule":"adult","broken":1}]}`. It takes
     /// memory for the text.
+    ///
+    /// ```
+    /// let text = summary.to_json(alloc)?;
+    /// assert!(rt; Summary::read(alloc, text.as_bytes()).is_ok_and(|read| read.rules.len() == 2));
+    /// ```
     pub fn to_json(&self, alloc: Global) -> Result<String, AllocError>
         ensures { IfOk result (λ text. string_bytes text ≡ sum_json (sum_of self.now)) }
     {

@@ -36,7 +36,7 @@ fn push_rules(alloc: Global, text: &mut String, rules: &[RuleCount]) -> Result<(
 
 // The counts, up to the bracket that opens the rules.
 fn counts_text(alloc: Global, counts: Counts) -> Result<String, AllocError>
-    ensures { IfOk result (λ text. string_bytes text 
+    ensures { IfOk result (λ text. string_bytes text
         ≡ counts_json counts.records counts.failed counts.unreadable) }
 {
     let Counts {
@@ -44,8 +44,7 @@ fn counts_text(alloc: Global, counts: Counts) -> Result<String, AllocError>
         failed,
         unreadable,
     } = counts;
-    format!(
-        in alloc;
+    format!(in alloc;
         "{{\"records\":{records},\"failed\":{failed},\"unreadable\":{unreadable},\"rules\":["
     )
 }
