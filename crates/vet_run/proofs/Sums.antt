@@ -8,7 +8,8 @@ use Rattle.serde_json.specs.View.{view, items_view}
 use Rattle.serde_json.specs.declared.value.Value.{Value}
 use Rattle.vet_checks.specs.RuleChecks.{name_of}
 use Rattle.vet_checks.specs.declared.rule_check.RuleCheck.{RuleCheck}
-use Rattle.vet_run.specs.Counting.{all_counted, breaks, breaks_one, number_of}
+use Rattle.vet_run.specs.Counting.{AreCounted, all_counted, breaks, breaks_one, number_of}
+use Rattle.vet_run.specs.declared.counts.Counts.{Counts}
 use Rattle.vet_run.specs.InputLines.{is_unreadable, record_taken}
 use Rattle.vet_run.specs.Summaries.{Named, rows_of}
 use Rattle.vet_run.specs.Sums.{Sum, both, both_rules, counted_over, fits_one, rule_within, rules_from, rules_within}
@@ -143,3 +144,17 @@ no_rules [] k d h e = absurd (omega (arith, h))
 no_rules (v ∷ values) zero d h e = ap (λ o. rules_from o (rules_within (items_view values))) e
 no_rules (v ∷ values) (suc k) d h e =
     ap (rules_from (rule_within (view v))) (no_rules values k d (omega (arith, h)) e) ∙ before_none (rule_within (view v))
+
+-- what a run counted from nothing is what is counted of its lines
+pub run_counted : (rules : List RuleCheck) (lines : List (Option (List ℕ))) (before after : Counts) (broken : List ℕ) (s : Sum)
+    → before.records ≡ 0 → before.failed ≡ 0 → before.unreadable ≡ 0
+    → s.records ≡ after.records → s.failed ≡ after.failed → s.unreadable ≡ after.unreadable
+    → s.rules ≡ rows_of 0 (map name_of rules) broken
+    → AreCounted rules lines before after → broken ≡ all_counted rules lines (replicate (length rules) 0)
+    → s ≡ counted_over rules lines
+run_counted rules lines before after broken s r f u sr sf su rows counted all =
+    same_sum s (counted_over rules lines)
+    (omega (arith, r, sr, counted.records))
+    (omega (arith, f, sf, counted.failed))
+    (omega (arith, u, su, counted.unreadable))
+    (rows ∙ ap (rows_of 0 (map name_of rules)) all ∙ rows_counted lines rules)
