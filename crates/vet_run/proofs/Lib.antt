@@ -6,6 +6,7 @@ mod Listing
 mod Ranking
 mod Reading
 mod Running
+mod SumTexts
 mod Sums
 mod Taking
 mod Telling

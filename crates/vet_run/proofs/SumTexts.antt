@@ -21,7 +21,7 @@ use Rattle.serde_json.proofs.Numbers.{number_of-decimal}
 use Rattle.vet_run.specs.InputLines.{record_on}
 use Rattle.vet_run.specs.Objects.{listed, quoted}
 use Rattle.vet_run.specs.Summaries.{Named}
-use Rattle.vet_run.specs.Sums.{Sum, fits_one, rule_json, rules_within, sum_json, sum_told, sum_within}
+use Rattle.vet_run.specs.Sums.{Sum, fits, fits_one, rule_json, rules_within, sum_json, sum_told, sum_within}
 
 -- ---- the trees
 
@@ -146,3 +146,12 @@ module _ (s : Sum) (records : s.records < 2 ^ 64) (failed : s.failed < 2 ^ 64) (
       ∙ ap (λ t. option_and_then sum_within (read t)) e
       ∙ ap (option_and_then sum_within) read_again
       ∙ told_within
+
+-- the same where each number fits
+pub told_where_it_fits : (s : Sum) (text : List ℕ) → fits s ≡ true → IsUtf8 text → text ≡ sum_json s → sum_told text ≡ Some s
+told_where_it_fits s text h u e =
+    let all : Bool = list_all (λ (r : Named). fits_one r.1) s.rules in
+    let a = both_true (fits_one s.records) (fits_one s.failed && (fits_one s.unreadable && all)) h in
+    let b = both_true (fits_one s.failed) (fits_one s.unreadable && all) a.1 in
+    let c = both_true (fits_one s.unreadable) all b.1 in
+    told_again s (less s.records a.0) (less s.failed b.0) (less s.unreadable c.0) c.1 text u e

@@ -1,5 +1,5 @@
 -- What runs count, the sum of what several count, and its text as JSON.
-use Rattle.std.specs.Prelude.{ℕ, ◌+◌, ◌^◌, ◌++◌, ◌&&◌, nat_lt, List, [], ◌∷◌, Bool, Option, Some}
+use Rattle.std.specs.Prelude.{ℕ, ◌+◌, ◌^◌, ◌++◌, ◌&&◌, nat_lt, List, [], ◌∷◌, Bool, Option, Some, false}
 use Rattle.std.specs.Prelude.{None, codes, decimal, is_some, map, option_and_then, option_map}
 use Rattle.std.specs.Prelude.{string_bytes}
 use Rattle.std.specs.List.{list_all}

@@ -68,8 +68,8 @@ fn rule_within(alloc: Global, value: &Value) -> Result<Option<RuleCount>, AllocE
 
 // The rules that the objects tell, where each tells one.
 fn rules_within(alloc: Global, values: &[Value]) -> Result<Option<Vec<RuleCount>>, AllocError>
-    ensures { IfOk result (λ rules. option_map (λ (v : Vec RuleCount Global). map named_of v.items)
-        rules ≡ rules_within (items_view values.now)) }
+    ensures { IfOk result (λ rules. option_map (λ v. map named_of v.items) rules
+        ≡ rules_within (items_view values.now)) }
 {
     let mut rules = Vec::new(alloc);
     for value in values {

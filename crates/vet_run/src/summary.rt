@@ -1,13 +1,15 @@
 //! What runs count, and what several count together.
-ghost use Rattle.std.specs.Prelude.{◌≡◌, ◌≢◌, ℕ, List, Option, Err, IfOk, length, map, replicate};
-ghost use Rattle.std.specs.Prelude.{Some, None, string_bytes, true, false, option_and_then};
+ghost use Rattle.std.specs.Prelude.{◌≡◌, ◌≢◌, ◌+◌, ◌++◌, ◌&&◌, ℕ, List, Option, Some, None, Err};
+ghost use Rattle.std.specs.Prelude.{IfErr, IfOk, IfSome, length, map, replicate, string_bytes};
+ghost use Rattle.std.specs.Prelude.{true, false};
+ghost use Rattle.std.specs.List.{list_all};
 ghost use Rattle.vet_checks.specs.RuleChecks.{name_of};
-ghost use Rattle.vet_checks.specs.declared.rule_check.RuleCheck as check;
+ghost use Rattle.vet_checks.specs.declared.rule_check.RuleCheck.{RuleCheck};
 ghost use Rattle.vet_run.specs.Counting.{AreCounted, all_counted};
-ghost use Rattle.vet_run.specs.Summaries.{rows_of, IsSummary};
+ghost use Rattle.vet_run.specs.Summaries.{rows_of, IsSummary, Named};
 ghost use Rattle.vet_run.specs.Sums.{both, both_rules, counted_over, fits, fits_one, named_of};
-ghost use Rattle.vet_run.specs.Sums.{no_sum_text};
-ghost use Rattle.vet_run.specs.Sums.{rule_names, sum_json, sum_of, sum_told};
+ghost use Rattle.vet_run.specs.Sums.{rule_names, sum_json, sum_of, sum_told, Sum};
+ghost use Rattle.std.specs.Str.{IsUtf8};
 ghost use Rattle.vet_run.specs.declared.read_summary.ReadSummaryError.TheVariants.{NoMemory};
 ghost use Rattle.vet_run.specs.declared.summary.NoSum.TheVariants as no_sum;
 
@@ -47,6 +49,9 @@ pub enum NoSum {
 }
 
 impl fmt::Display for NoSum {
+    ghost use Rattle.std.specs.Prelude.{Some};
+    ghost use Rattle.vet_run.specs.Sums.{no_sum_text};
+
     ghost output = { λ fault. Some (no_sum_text fault) };
 
     fn fmt<W: fmt::Write>(&self, f: &mut fmt::Formatter<W>) -> fmt::Result {
@@ -59,7 +64,16 @@ impl fmt::Display for NoSum {
 
 impl Error for NoSum {}
 
+// Whether the rules have the same name.
+fn is_same(left: &RuleCount, right: &RuleCount) -> bool
+    ensures same { result ≡ true → string_bytes left.now.rule ≡ string_bytes right.now.rule }
+    ensures other { result ≡ false → string_bytes left.now.rule ≢ string_bytes right.now.rule }
+{
+    left.rule == right.rule
+}
+
 // Whether the rules have the same names, in the same order.
+#[tactic(auto, using(crate::proofs::Sums::named))]
 fn have_same_names(left: &[RuleCount], right: &[RuleCount]) -> bool
     ensures same { result ≡ true → rule_names left.now ≡ rule_names right.now }
     ensures other { result ≡ false → rule_names left.now ≢ rule_names right.now }
@@ -68,7 +82,7 @@ fn have_same_names(left: &[RuleCount], right: &[RuleCount]) -> bool
         return false;
     }
     for index in 0..left.len() {
-        if left[index].rule != right[index].rule {
+        if !is_same(&left[index], &right[index]) {
             return false;
         }
     }
@@ -150,6 +164,7 @@ impl Summary {
     /// let sum = Summary::of(alloc, &rules, &tally)?.plus(&summary);
     /// assert!(rt; sum.is_ok_and(|sum| sum.counts.records == 0));
     /// ```
+    #[tactic(auto, using(crate::proofs::Sums::added))]
     pub fn plus(self, other: &Summary) -> Result<Summary, NoSum>
         ensures sum { IfOk result (λ sum. sum_of sum ≡ both (sum_of self) (sum_of other.now)) }
         ensures same { IfOk result (λ sum.
@@ -215,9 +230,13 @@ impl Summary {
     /// let text = br#"{"records":4,"failed":1,"unreadable":0,"rules":[]}"#;
     /// assert!(rt; Summary::read(alloc, text).is_ok_and(|read| read.counts.failed == 1));
     /// ```
+    #[tactic(auto, using(crate::proofs::SumTexts::told_where_it_fits))]
     pub fn read(alloc: Global, text: &[u8]) -> Result<Summary, ReadSummaryError>
         ensures read { IfOk result (λ summary. sum_told text.now ≡ Some (sum_of summary)) }
         ensures refused { IfErr result (λ e. e ≢ NoMemory → sum_told text.now ≡ None) }
+        // What `to_json` writes of a sum tells the sum.
+        ensures written { (sum : Sum) → fits sum ≡ true → IsUtf8 text.now
+            → text.now ≡ sum_json sum → sum_told text.now ≡ Some sum }
     {
         read_summary(alloc, text)
     }
