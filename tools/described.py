@@ -9,14 +9,18 @@ import textwrap
 sys.dont_write_bytecode = True
 from sources import TOP
 
-OPTION = re.compile(r'^ {2,6}(?:(-\w), )?--([\w-]+)(?: <([^>]+)>)?(?: {2,}(\S.*))?$')
+OPTION = re.compile(r'^ {2,6}(?:(-\w), )?--([\w-]+)(?:( |\[=)<([^>]+)>\]?)?(?: {2,}(\S.*))?$')
 VALUES = re.compile(r' *\[possible values: ([^\]]*)\]')
 TOKEN = re.compile(r'(?m)^ */// `(\w+)(=S)?`: (.*)$')
 
 
 class Option:
-    def __init__(self, short, name, value, text):
-        self.short, self.name, self.value = short, name, value
+    """One whose value is optional takes it behind `=` alone."""
+
+    def __init__(self, short, name, between, value, text):
+        self.short, self.name, self.optional = short, name, between == '[='
+        self.value = '' if self.optional else value
+        self.behind = value if self.optional else ''
         named = VALUES.search(text)
         self.values = named[1].split(', ') if named else []
         self.text = VALUES.sub('', text)
@@ -28,9 +32,9 @@ def options_of(told):
     for line in told.partition('Options:\n')[2].splitlines():
         match = OPTION.match(line)
         if match:
-            found.append([match[1], match[2], match[3], match[4] or ''])
+            found.append([match[1], match[2], match[3], match[4], match[5] or ''])
         elif found and re.match(r' {8}', line):
-            found[-1][3] = f'{found[-1][3]} {line.strip()}'.strip()
+            found[-1][4] = f'{found[-1][4]} {line.strip()}'.strip()
         elif found and line.strip():
             break
     return [Option(*it) for it in found]
@@ -53,7 +57,8 @@ def roff_options(options):
     lines = []
     for it in options:
         short = f'Fl {it.short[1:]} , ' if it.short else ''
-        lines += [f'.It {short}Fl -{roff(it.name)}' + f' Ar {it.value}' * bool(it.value)]
+        behind = f' Ns Op = Ns Ar {it.behind}' if it.optional else ''
+        lines += [f'.It {short}Fl -{roff(it.name)}' + f' Ar {it.value}' * bool(it.value) + behind]
         lines += [roff(it.text + '.')]
         lines += [f'One of {" and ".join(it.values)}.'] if it.values else []
     return '\n'.join(lines)
@@ -70,8 +75,13 @@ def quoted(text):
     return "'" + text.replace("'", "'\\''") + "'"
 
 
+def written(options):
+    """The words of options: of one with an optional value each value stands behind `=`."""
+    return [word for it in options for word in [f'--{it.name}', *(f'--{it.name}={value}' for value in it.values * it.optional)]]
+
+
 def bash(options):
-    flags = ' '.join(f'--{it.name}' for it in options)
+    flags = ' '.join(written(options))
     cases = [f"    --{it.name}) COMPREPLY=($(compgen -W '{' '.join(it.values)}' -- \"$word\")); return ;;"
              for it in options if it.value]
     return '\n'.join([
@@ -95,7 +105,8 @@ def zsh(options):
     for it in options:
         said = re.sub(r'([\[\]:\\])', r'\\\1', it.text)
         value = f':{it.value}:({" ".join(it.values)})' if it.values else f':{it.value}:' if it.value else ''
-        lines += [f'    {quoted(f"--{it.name}[{said}]{value}")} \\']
+        after = f'=-[{said}]::{it.behind}:({" ".join(it.values)})' if it.optional else f'[{said}]{value}'
+        lines += [f'    {quoted(f"--{it.name}{after}")} \\']
         lines += [f'    {quoted(f"{it.short}[{said}]")} \\'] if it.short else []
     return '\n'.join([*lines, "    '1:RULES:_files' '*:FILES:_files'", ''])
 
@@ -111,7 +122,7 @@ def fish(options):
     lines = ['# Completion of vet for fish.']
     for it in options:
         words = ['complete -c vet', f'-l {it.name}'] + ([f'-s {it.short[1:]}'] if it.short else [])
-        words += [f'-x -a {quoted(" ".join(it.values))}'] if it.values else ['-x'] if it.value else []
+        words += [f'-{"f" if it.optional else "x"} -a {quoted(" ".join(it.values))}'] if it.values else ['-x'] if it.value else []
         lines.append(' '.join([*words, f'-d {fish_quoted(it.text)}']))
     return '\n'.join([*lines, ''])
 

@@ -18,23 +18,29 @@ def pieces(path, size):
 
 
 def check(piece):
-    """What `vet` writes of a piece, and its status; an error, to be tried again, if killed."""
+    """What `vet` writes and tells of a piece, and its status; an error, to be tried again, if killed."""
     path, begin, end = piece
     with open(path, 'rb') as file:
         file.seek(begin)
         records = file.read(end - begin)
-    words = ['vet', '--json', '--failed', '--id', '/id', 'rules']
-    ran = subprocess.run(words, input=records, stdout=subprocess.PIPE)
+    words = ['vet', '--json', '--failed', '--id', '/id', '--summary=json', 'rules']
+    ran = subprocess.run(words, input=records, capture_output=True)
     if not 0 <= ran.returncode <= 2:
         raise RuntimeError(f'vet ended with {ran.returncode}')
-    return ran.stdout, ran.returncode
+    return ran.stdout, ran.stderr, ran.returncode
 
 
 if __name__ == '__main__':
-    client, status = Client(sys.argv[1]), 0
+    client, status, names = Client(sys.argv[1]), 0, []
     told = client.map(check, list(pieces('all.jsonl', 1 << 16)), retries=2, pure=False)
     with open('objects', 'wb') as objects:
-        for written, ended in (it.result() for it in told):
+        for number, it in enumerate(told):
+            written, said, ended = it.result()
             objects.write(written)
             status = max(status, ended)
+            names.append(f'told.{number}')
+            with open(names[-1], 'wb') as file:
+                file.write(said)
+    with open('summary', 'wb') as summary:
+        subprocess.run(['vet', '--merge', '--summary=json', *names], stdout=summary)
     sys.exit(status)

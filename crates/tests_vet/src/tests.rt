@@ -6,3 +6,4 @@ mod progress;
 mod records;
 mod rules;
 mod runs;
+mod summaries;

@@ -3,8 +3,12 @@
 
 use std::io::IsTerminal;
 use std::process::ExitCode;
-use vet_program::run_program;
+use vet_program::{Terminals, run_program};
 
 fn main(rt: HostRuntime) -> ExitCode {
-    ExitCode::from(run_program(&rt, rt.stderr().is_terminal()))
+    let terminals = Terminals {
+        output: rt.stdout().is_terminal(),
+        error: rt.stderr().is_terminal(),
+    };
+    ExitCode::from(run_program(&rt, terminals))
 }

@@ -1,5 +1,8 @@
+pub mod Colours
 pub mod Ends
 pub mod Faults
 pub mod Progress
+pub mod Sources
+pub mod Summaries
 pub mod Wants
 pub mod Words

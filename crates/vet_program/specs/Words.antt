@@ -16,6 +16,8 @@ use Rattle.vet_run.specs.declared.input_format.InputFormat.TheVariants as input
 use Rattle.vet_program.specs.declared.flags.Flags.{Flags}
 use Rattle.vet_program.specs.declared.format.Format.{Format}
 use Rattle.vet_program.specs.declared.format.Format.TheVariants as form
+use Rattle.vet_program.specs.declared.summary_form.SummaryForm.{SummaryForm}
+use Rattle.vet_program.specs.declared.summary_form.SummaryForm.TheVariants as shown
 
 -- what is shown of a word that is not UTF-8, which has a mark; nothing of any other
 abbrev pub untold_of : List ℕ → Option (List ℕ)
@@ -55,6 +57,17 @@ format_named (Some name) =
 -- the form that another program reads, where one is asked for
 abbrev pub format_of : Found → Option Format
 format_of found = format_named (first_value found (codes "format"))
+
+-- the form of this name, in which the counts of the rules are shown
+abbrev pub summary_named : Option (List ℕ) → Option SummaryForm
+summary_named None = None
+summary_named (Some name) =
+    if bytes_eq name (codes "lines") then Some shown.Lines
+    else (if bytes_eq name (codes "json") then Some shown.Json else None)
+
+-- the form in which they are shown, where that is asked for
+abbrev pub summary_of : Found → Option SummaryForm
+summary_of found = summary_named (first_value found (codes "summary"))
 
 -- some of the flags can't stand together: lines as they stand go with no other report and with one
 -- of both verdicts, but `--failed` may choose the objects of `--json`; changes go with no other;

@@ -1,6 +1,8 @@
 //! The command line of `vet`.
+use crate::colours::COLOURS;
 use crate::format::FORMATS;
 use crate::input_format::INPUT_FORMATS;
+use crate::summary_form::SUMMARY_FORMS;
 use crate::version::VERSION;
 use clap::{Arg, ArgAction, Command, value_parser};
 use std::alloc::{AllocError, Global};
@@ -74,9 +76,56 @@ fn input_format<'a>(alloc: Global) -> Arg<'a> {
     format.value_parser(INPUT_FORMATS)
 }
 
+// One whose value stands behind `=`, so that no file behind it is taken for one.
 fn summary<'a>(alloc: Global) -> Arg<'a> {
-    let help = "Count the records that break each rule, and show\nthe counts at the end";
-    flag(alloc, "summary", help)
+    let help = "Count the records that break each rule, and show\n\
+                the counts at the end, as `lines`, or all counts\n\
+                as one object of `json`\n";
+    let summary = option(alloc, "summary", help, ArgAction::Set).value_name("FORM");
+    let summary = summary.num_args(0..=1).require_equals(true);
+    summary
+        .default_missing_value("lines")
+        .value_parser(SUMMARY_FORMS)
+}
+
+// What a run over records may be told.
+const OF_RUNS: &[&str] = &[
+    "failed",
+    "passed",
+    "all",
+    "change",
+    "json",
+    "format",
+    "id",
+    "input-format",
+    "max",
+    "parts",
+    "color",
+    "progress",
+    "flush",
+];
+
+fn merge<'a>(alloc: Global) -> Result<Arg<'a>, AllocError> {
+    let help = "Add up the objects that `--summary=json` wrote of\n\
+                runs by the same rules: RULES and FILES are the\n\
+                files of these objects";
+    flag(alloc, "merge", help).conflicts_with_all(OF_RUNS)
+}
+
+fn parts<'a>(alloc: Global) -> Arg<'a> {
+    let help = "Show of a rule or a part N parts at most, and how\n\
+                many more there are; 1000 where nothing is said";
+    let parts = option(alloc, "parts", help, ArgAction::Set).value_name("N");
+    parts.value_parser(value_parser!(u64))
+}
+
+fn color<'a>(alloc: Global) -> Arg<'a> {
+    let help = "Colour the verdicts of blocks: `auto`, on a\n\
+                terminal, unless NO_COLOR is set or TERM is\n\
+                `dumb`, `always` or `never`; `auto` where nothing\n\
+                is said\n";
+    let color = option(alloc, "color", help, ArgAction::Set).value_name("WHEN");
+    color.value_parser(COLOURS)
 }
 
 fn most<'a>(alloc: Global) -> Arg<'a> {
@@ -87,7 +136,9 @@ fn most<'a>(alloc: Global) -> Arg<'a> {
 }
 
 fn progress<'a>(alloc: Global) -> Arg<'a> {
-    let help = "Show on a terminal, on standard error, how many\nlines are read and how fast";
+    let help = "Show on a terminal, on standard error, how many\n\
+                lines are read, how fast, and of files the time\n\
+                left";
     flag(alloc, "progress", help)
 }
 
@@ -124,7 +175,7 @@ docs/VET.md of the repository has the language of rules.";
 pub(crate) fn command<'a>(alloc: Global) -> Result<Command<'a>, AllocError> {
     let about = "Checks records of JSON, one on a line, and says why they break a rule";
     let (failed, passed, change) = (failed(alloc)?, passed(alloc)?, change(alloc)?);
-    let format = format(alloc)?;
+    let (format, merge) = (format(alloc)?, merge(alloc)?);
     Command::new(alloc, "vet")
         .about(about)
         .version(VERSION)
@@ -139,7 +190,10 @@ pub(crate) fn command<'a>(alloc: Global) -> Result<Command<'a>, AllocError> {
         .arg(id(alloc))?
         .arg(input_format(alloc))?
         .arg(summary(alloc))?
+        .arg(merge)?
         .arg(most(alloc))?
+        .arg(parts(alloc))?
+        .arg(color(alloc))?
         .arg(progress(alloc))?
         .arg(flush(alloc))?
         .arg(files(alloc))

@@ -1,4 +1,7 @@
 //! The inputs of a run, one after another.
+ghost use Rattle.std.specs.Prelude.{◌≡◌, option_map};
+ghost use Rattle.vet_program.specs.Sources.{source_by};
+
 use crate::io_fault::IoFault;
 use crate::metered::Metered;
 use crate::stdout::Stdout;
@@ -135,17 +138,19 @@ fn run_named<E: Files + Input + Print + Eprint + Clock + AllocGlobal>(
     }
 }
 
-// What an input of this name is called: nothing where it is the only one. GitHub is told the name
-// of a file that is.
-fn source<'r>(report: Report, is_only: bool, name: &'r str) -> Option<&'r str> {
+// What an input of this name is called: nothing where it is the only one and standard input. In
+// objects the only one has no name, so that those of pieces join to those of the whole.
+fn source<'r>(report: Report, is_only: bool, name: &'r str) -> Option<&'r str>
+    ensures { option_map (λ s. s.now) result ≡ source_by report is_only name.now }
+{
     let is_called = match report {
-        Report::GitHub { .. } => !is_only || name != "-",
-        _ => !is_only,
+        Report::Json { .. } => !is_only,
+        _ => !is_only || name != "-",
     };
     if is_called { Some(name) } else { None }
 }
 
-/// Runs over the inputs of these names. With more than one, records stand at their names.
+/// Runs over the inputs of these names, at which records stand.
 pub(crate) fn run_files<'r, E: Files + Input + Print + Eprint + Clock + AllocGlobal>(
     watched: &Watched<'_, E>,
     names: &[&'r str],

@@ -1,6 +1,7 @@
 //! The program `vet`: what its words ask for, what it writes, and how it ends.
 #![tactic(auto)]
 
+mod colours;
 mod command;
 mod document;
 mod end;
@@ -10,6 +11,7 @@ mod input_format;
 mod inputs;
 mod io_fault;
 mod length;
+mod merge;
 mod meter;
 mod metered;
 mod process;
@@ -18,7 +20,9 @@ mod rule_file;
 mod shown;
 mod stdout;
 mod stream_fault;
+mod summary_form;
 mod tell;
+mod terminals;
 mod version;
 mod wanted;
 mod watched;
@@ -26,3 +30,4 @@ mod words;
 mod words_fault;
 
 pub use process::run_program;
+pub use terminals::Terminals;

@@ -9,9 +9,12 @@ use crate::document::write_document;
 use crate::end::End;
 use crate::inputs::{Ended, run_files, run_stdin};
 use crate::io_fault::IoFault;
+use crate::merge::{merge, summary_text};
 use crate::rule_file::RuleFile;
 use crate::stdout::Stdout;
+use crate::summary_form::SummaryForm;
 use crate::tell::{tell, tell_clash, tell_file, tell_no_path, tell_totals, tell_words};
+use crate::terminals::{Terminals, shows_colours};
 use crate::wanted::{Wanted, wanted_of};
 use crate::watched::Watched;
 use crate::words::{read_words, untold};
@@ -26,7 +29,7 @@ use std::{fs, io};
 use streams::Stderr;
 use vet_checks::RuleCheck;
 use vet_run::settings::Report;
-use vet_run::{Job, ReadChecksError, RulesFault, Streams, Tally, read_checks, summary};
+use vet_run::{Job, ReadChecksError, RulesFault, Streams, Summary, Tally, read_checks};
 
 // How much of the output is kept back.
 const KEPT: usize = 8192;
@@ -35,7 +38,7 @@ const KEPT: usize = 8192;
 fn tally_of(alloc: Global, rules: &[RuleCheck], wanted: &Wanted) -> Result<Tally, AllocError> {
     if let Report::JUnit = wanted.settings.report {
         Tally::with_blocks(alloc, rules, wanted.most)
-    } else if wanted.summary {
+    } else if wanted.summary.is_some() {
         Tally::of_rules(alloc, rules, wanted.most)
     } else {
         Ok(Tally::new(alloc, wanted.most))
@@ -64,6 +67,11 @@ fn run_inputs<'r, E: Files + Input + Print + Eprint + Clock + AllocGlobal>(
     }
 }
 
+// Whether the totals are told: an object has them.
+fn has_totals(summary: Option<SummaryForm>) -> bool {
+    !matches!(summary, Some(SummaryForm::Json))
+}
+
 // Tells the counts, and how the program ends.
 fn end<E: Eprint + AllocGlobal>(
     rt: &E,
@@ -74,12 +82,15 @@ fn end<E: Eprint + AllocGlobal>(
 ) -> io::Result<End>
     ensures { IfOk result (λ end. end ≡ Ran tally.now.counts all_read) }
 {
-    if wanted.summary {
-        let lines = summary(rt.alloc(), rules, &tally.broken)?;
-        eprint!(rt; "{lines}")?;
-    }
     let counts = tally.counts;
-    tell_totals(rt, counts)?;
+    if let Some(form) = wanted.summary {
+        let summary = Summary::of(rt.alloc(), rules, tally)?;
+        let text = summary_text(rt.alloc(), form, &summary)?;
+        eprint!(rt; "{text}")?;
+    }
+    if has_totals(wanted.summary) {
+        tell_totals(rt, counts)?;
+    }
     Ok(End::Ran { counts, all_read })
 }
 
@@ -203,13 +214,27 @@ fn refuse_path<E: Eprint>(rt: &E, path: &str) -> io::Result<End>
     Ok(End::Refused)
 }
 
-// Runs as the words want it.
-fn run_as<E: Files + Input + Print + Eprint + Clock + AllocGlobal>(
+// Adds up the summaries that the words name.
+fn merge_as<E: Files + Print + Eprint + AllocGlobal>(
     rt: &E,
-    on_terminal: bool,
     matches: &ArgMatches<'_>,
 ) -> io::Result<End> {
-    let Some(mut wanted) = wanted_of(rt.alloc(), matches)? else {
+    let form = SummaryForm::named(matches.get_str("summary")).unwrap_or(SummaryForm::Lines);
+    let first = matches.get_str("RULES").unwrap_or("");
+    merge(rt, form, first, matches.get_strs("FILES").unwrap_or(&[]))
+}
+
+// Runs as the words want it.
+fn run_as<E: Env + Files + Input + Print + Eprint + Clock + AllocGlobal>(
+    rt: &E,
+    terminals: Terminals,
+    matches: &ArgMatches<'_>,
+) -> io::Result<End> {
+    if matches.get_flag("merge") {
+        return merge_as(rt, matches);
+    }
+    let shows_colours = shows_colours(rt, terminals);
+    let Some(mut wanted) = wanted_of(rt.alloc(), matches, shows_colours)? else {
         return refuse_flags(rt, matches);
     };
     if let Some(path) = &wanted.settings.id {
@@ -217,7 +242,7 @@ fn run_as<E: Files + Input + Print + Eprint + Clock + AllocGlobal>(
             return refuse_path(rt, untold(path).unwrap_or(path));
         }
     }
-    wanted.progress = wanted.progress && on_terminal;
+    wanted.progress = wanted.progress && terminals.error;
     let rules = matches.get_str("RULES").unwrap_or("");
     run_by_file(rt, rules, &wanted, matches.get_strs("FILES"))
 }
@@ -240,12 +265,12 @@ fn end_of_words<E: Print + Eprint + AllocGlobal>(rt: &E, error: &clap::Error) ->
 
 fn try_run<E: Env + Files + Input + Print + Eprint + Clock + AllocGlobal>(
     rt: &E,
-    on_terminal: bool,
+    terminals: Terminals,
 ) -> io::Result<End> {
     let words = read_words(rt)?;
     let parsed = command(rt.alloc())?.try_get_matches_from(words.as_slice());
     match parsed {
-        Ok(matches) => run_as(rt, on_terminal, &matches),
+        Ok(matches) => run_as(rt, terminals, &matches),
         Err(error) => end_of_words(rt, &error),
     }
 }
@@ -254,22 +279,26 @@ fn try_run<E: Env + Files + Input + Print + Eprint + Clock + AllocGlobal>(
 /// its status: 0 where every record keeps every rule, 1 where one breaks a rule, and 2 for wrong
 /// words, rules that can't be read, lines that are not JSON, faults of reading and writing, and out
 /// of memory, each told in a line on standard error. Where nothing reads standard output any more,
-/// it ends without a line, with the status of the records before. Whether standard error is a
-/// terminal is told by the caller: elsewhere `--progress` writes nothing. It takes memory as
-/// `run_records` does, and for the words and the rules.
+/// it ends without a line, with the status of the records before. Which outputs are terminals is
+/// told by the caller: elsewhere `--progress` writes nothing, and blocks have no colours unless the
+/// words ask for them. It takes memory as `run_records` does, and for the words and the rules.
 ///
 /// ```
 /// fn main(rt: HostRuntime) -> ExitCode {
-///     ExitCode::from(run_program(&rt, rt.stderr().is_terminal()))
+///     let terminals = Terminals {
+///         output: rt.stdout().is_terminal(),
+///         error: rt.stderr().is_terminal(),
+///     };
+///     ExitCode::from(run_program(&rt, terminals))
 /// }
 /// ```
 pub fn run_program<E: Env + Files + Input + Print + Eprint + Clock + AllocGlobal>(
     rt: &E,
-    on_terminal: bool,
+    terminals: Terminals,
 ) -> u8
     ensures bound { result ≤ 2 }
 {
-    match try_run(rt, on_terminal) {
+    match try_run(rt, terminals) {
         Ok(end) => end.status(),
         Err(error) => {
             // Where this line can't be written either, the status alone tells.

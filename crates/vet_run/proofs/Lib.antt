@@ -7,6 +7,8 @@ mod Ranking
 mod Reading
 mod Rejecting
 mod Running
+mod SumTexts
+mod Sums
 mod Taking
 mod Telling
 mod Together

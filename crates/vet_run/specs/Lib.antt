@@ -12,5 +12,6 @@ pub mod RulesFile
 pub mod Runs
 pub mod Settings
 pub mod Summaries
+pub mod Sums
 pub mod Together
 pub mod Xml

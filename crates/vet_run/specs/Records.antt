@@ -23,7 +23,7 @@ use Rattle.vet_run.specs.GitHub.{file_of, line_of, opening, error_line, title}
 use Rattle.vet_run.specs.InputLines.{ended}
 use Rattle.vet_run.specs.Objects.{object_text}
 use Rattle.vet_run.specs.Places.{place_text, IsHead, IsName}
-use Rattle.vet_run.specs.Settings.{id_of, source_of}
+use Rattle.vet_run.specs.Settings.{id_of, source_of, style_of}
 
 -- the formula of a rule on a record
 abbrev pub formula_on : Data → RuleCheck → Formula
@@ -57,14 +57,9 @@ AddsChange d r old new =
 abbrev pub shown : Bool → List Formula → List Formula
 shown all fs = cond all fs (take 1 fs)
 
--- how a case is shown: of a value longer than 1,000 characters the first 1,000, and how many it has;
--- and control characters escaped
-abbrev pub cut : Style
-cut = record { children = None; characters = Some 1000; escapes = true; colours = false }
-
 -- the line with what heads it, and the lines of each case
-abbrev pub block : List ℕ → List (Tree CaseNode) → List ℕ
-block head cases = head ++ (codes ": false\n" ++ flat_map (styled_lines cut) cases)
+abbrev pub block : Style → List ℕ → List (Tree CaseNode) → List ℕ
+block style head cases = head ++ (codes ": false\n" ++ flat_map (styled_lines style) cases)
 
 -- what heads the block of the record on the line of this number
 abbrev pub HeadsRecord : Job → ℕ → Data → List ℕ → Type 0
@@ -74,7 +69,7 @@ HeadsRecord j number d text = IsHead (id_of j.settings.now) (place_text (source_
 abbrev pub IsBlockOf : Job → ℕ → Data → List (Tree CaseNode) → List ℕ → Type 0
 IsBlockOf j number d [] text = text ≡ []
 IsBlockOf j number d (c ∷ cs) text =
-    (head : List ℕ) × HeadsRecord j number d head × (text ≡ block head (c ∷ cs))
+    (head : List ℕ) × HeadsRecord j number d head × (text ≡ block (style_of j) head (c ∷ cs))
 
 -- the block of the rules that a record breaks, of all or of the first
 pub record IsBlock (j : Job) (all : Bool) (number : ℕ) (d : Data) (written : List ℕ) : Type 0 where
@@ -106,8 +101,9 @@ pub record IsObject (j : Job) (all failed : Bool) (number : ℕ) (d : Data)
   pub is : written ≡ wanted_text failed (source_of j) name all cases
 
 -- the line that GitHub shows of a case
-abbrev pub error_of : Option (List ℕ) → Option ℕ → List ℕ → Tree CaseNode → List ℕ
-error_of source line opening c = error_line source line (title c) (opening ++ styled_lines cut c)
+abbrev pub error_of : Style → Option (List ℕ) → Option ℕ → List ℕ → Tree CaseNode → List ℕ
+error_of style source line opening c =
+    error_line source line (title c) (opening ++ styled_lines style c)
 
 -- a line for each rule that a record breaks, of all or of the first
 pub record IsErrors (j : Job) (all : Bool) (number : ℕ) (d : Data) (written : List ℕ) : Type 0 where
@@ -115,7 +111,8 @@ pub record IsErrors (j : Job) (all : Bool) (number : ℕ) (d : Data) (written : 
   pub explain : AllZip Explains (shown all (broken j.rules.now d)) cases
   pub head : List ℕ
   pub heads : HeadsRecord j number d head
-  pub is : written ≡ flat_map (error_of (file_of (source_of j)) (line_of j.format number)
+  pub is : written ≡ flat_map (error_of (style_of j) (file_of (source_of j))
+      (line_of j.format number)
       (opening (file_of (source_of j)) (line_of j.format number) (id_of j.settings.now) head))
       cases
 

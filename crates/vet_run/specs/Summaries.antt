@@ -5,8 +5,6 @@ use Rattle.std.specs.Prelude.{if◌then◌else◌, IsPermutation}
 use Rattle.std.specs.Int.{div_ceil}
 use Rattle.std.specs.List.Sorted.{IsNonDecreasingBy, IsStableByKey}
 use Rattle.std.specs.Ordering.{nat_cmp}
-use Rattle.vet_checks.specs.RuleChecks.{name_of}
-use Rattle.vet_checks.specs.declared.rule_check.RuleCheck.{RuleCheck}
 use Rattle.vet_run.specs.declared.summary_lines.Columns.{Columns}
 use Rattle.vet_run.specs.declared.summary_lines.Row.{Row}
 
@@ -63,10 +61,10 @@ scale_text unit =
 
 -- a line for each rule, of those that more records break first, and of the others in their order,
 -- and one for the scale
-pub record IsSummary (rules : List RuleCheck) (broken : List ℕ) (text : List ℕ) : Type 0 where
+pub record IsSummary (rules : List Named) (text : List ℕ) : Type 0 where
   pub first : List Row
   pub rows : List Row
-  pub of : map row_of first ≡ rows_of 0 (map name_of rules) broken
+  pub of : map row_of first ≡ rules
   pub moved : IsPermutation first rows
   pub ranked : IsNonDecreasingBy falling rows
   pub stable : IsStableByKey falling nat_cmp first rows

@@ -51,8 +51,8 @@ fn push_errors(
     cases: &[Case],
 ) -> Result<(), AllocError>
     ensures { OnOk result (lines.new.items ≡ lines.old.items
-        ++ flat_map (error_of (option_map (λ s. s.now) position.now.file) position.now.line
-        position.now.opening.now) cases.now) }
+        ++ flat_map (error_of position.now.style.now (option_map (λ s. s.now) position.now.file)
+        position.now.line position.now.opening.now) cases.now) }
 {
     for case in cases {
         push_error(alloc, lines, position, case)?;
@@ -85,6 +85,7 @@ fn push_broken<'r>(
         file: file_of(job.source),
         line,
         opening: &opening,
+        style: &job.settings.style,
     };
     push_errors(alloc, lines, &position, cases.as_slice())?;
     Ok(is_none(&cases))

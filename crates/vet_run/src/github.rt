@@ -5,11 +5,11 @@ ghost use Rattle.vet_run.specs.GitHub.{property_byte, property_text, title, with
 ghost use Rattle.vet_run.specs.Records.{error_of};
 
 use crate::bytes::{push_bytes, push_number};
-use crate::record::write_case;
 use predicates_core::reflection::Case;
+use predicates_style::{Style, render_styled_onto};
 use std::alloc::{AllocError, Global};
 
-/// Where a record stands, and what opens the message of each of its lines.
+/// Where a record stands, what opens the message of each of its lines, and how a case is shown.
 #[derive(Clone, Copy)]
 pub(crate) struct Position<'a> {
     /// The file's name, where it stands in one.
@@ -17,6 +17,7 @@ pub(crate) struct Position<'a> {
     /// The number of its line, where it is known.
     pub(crate) line: Option<u64>,
     pub(crate) opening: &'a str,
+    pub(crate) style: &'a Style,
 }
 
 fn push_message_byte(line: &mut Vec<u8>, byte: u8) -> Result<(), AllocError>
@@ -113,16 +114,17 @@ pub(crate) fn push_error(
     case: &Case,
 ) -> Result<(), AllocError>
     ensures { OnOk result (lines.new.items ≡ lines.old.items
-        ++ error_of (option_map (λ s. s.now) position.now.file) position.now.line
-        position.now.opening.now case.now) }
+        ++ error_of position.now.style.now (option_map (λ s. s.now) position.now.file)
+        position.now.line position.now.opening.now case.now) }
 {
     let Position {
         file,
         line,
         opening,
+        style,
     } = *position;
     let mut message = String::from_str(alloc, opening)?;
-    write_case(&mut message, case)?;
+    render_styled_onto(&mut message, style, case)?;
     push_bytes(lines, b"::error ")?;
     push_position(alloc, lines, file, line)?;
     push_bytes(lines, b"title=")?;

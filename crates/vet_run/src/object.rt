@@ -31,15 +31,19 @@ fn word_of(truth: bool) -> &'static str
     if truth { "true" } else { "false" }
 }
 
-// Writes a comma, where something stands before.
-fn push_comma(text: &mut String, later: bool) -> Result<(), AllocError>
+/// Writes a comma, where something stands before.
+pub(crate) fn push_comma(text: &mut String, later: bool) -> Result<(), AllocError>
     ensures { OnOk result (string_bytes text.new ≡ string_bytes text.old ++ comma_if later) }
 {
     if later { text.push_str(",") } else { Ok(()) }
 }
 
-// Writes a text as JSON has it.
-fn push_quoted(alloc: Global, text: &mut String, unquoted: &str) -> Result<(), AllocError>
+/// Writes a text as JSON has it.
+pub(crate) fn push_quoted(
+    alloc: Global,
+    text: &mut String,
+    unquoted: &str,
+) -> Result<(), AllocError>
     ensures { OnOk result (string_bytes text.new ≡ string_bytes text.old ++ quoted unquoted.now) }
 {
     let quoted = Value::try_from_str(alloc, unquoted)?.to_string(alloc)?;

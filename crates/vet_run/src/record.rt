@@ -8,7 +8,7 @@ ghost use Rattle.predicates_style.specs.StyledLines.{styled_lines};
 ghost use Rattle.predicates_core.specs.Shows.{Explains};
 ghost use Rattle.serde_json.specs.View.{view};
 ghost use Rattle.vet_run.specs.Counting.{AddsCount, one_counted};
-ghost use Rattle.vet_run.specs.Records.{keeps, broken, shown, block, cut, AddsCase};
+ghost use Rattle.vet_run.specs.Records.{keeps, broken, shown, block, AddsCase};
 ghost use Rattle.vet_run.specs.Records.{AddsChange};
 ghost use Rattle.vet_run.specs.Records.{IsBlock, IsBlockOf, IsChangeBlock, IsObject};
 ghost use Rattle.vet_run.specs.Records.{wanted_text};
@@ -170,45 +170,30 @@ fn add_change<'r>(
     }
 }
 
-// How cases are shown: long values are cut, so that no line of a block is endless, and control
-// characters are escaped, so that none reaches a terminal.
-fn style() -> Style
-    ensures { result ≡ cut }
-{
-    Style {
-        characters: Some(1000),
-        escapes: true,
-        ..Style::new()
-    }
-}
-
-/// Writes the lines of the case behind the text.
-pub(crate) fn write_case(text: &mut String, case: &Case) -> Result<(), AllocError>
-    ensures { OnOk result
-        (string_bytes text.new ≡ string_bytes text.old ++ styled_lines cut case.now) }
-{
-    render_styled_onto(text, &style(), case)
-}
-
 // Writes the lines of each case behind the text.
-fn write_cases(text: &mut String, cases: &[Case]) -> Result<(), AllocError>
-    ensures { OnOk result
-        (string_bytes text.new ≡ string_bytes text.old ++ flat_map (styled_lines cut) cases.now) }
+fn write_cases(text: &mut String, style: &Style, cases: &[Case]) -> Result<(), AllocError>
+    ensures { OnOk result (string_bytes text.new
+        ≡ string_bytes text.old ++ flat_map (styled_lines style.now) cases.now) }
 {
     for case in cases {
-        write_case(text, case)?;
+        render_styled_onto(text, style, case)?;
     }
     Ok(())
 }
 
 // Writes the line with what heads the block, and the lines of each case, behind the text.
-fn write_headed(text: &mut String, head: &str, cases: &[Case]) -> Result<(), AllocError>
+fn write_headed(
+    text: &mut String,
+    style: &Style,
+    head: &str,
+    cases: &[Case],
+) -> Result<(), AllocError>
     ensures { OnOk result
-        (string_bytes text.new ≡ string_bytes text.old ++ block head.now cases.now) }
+        (string_bytes text.new ≡ string_bytes text.old ++ block style.now head.now cases.now) }
 {
     text.push_str(head)?;
     text.push_str(": false\n")?;
-    write_cases(text, cases)
+    write_cases(text, style, cases)
 }
 
 /// Writes the block of the record's cases in place of what the text held.
@@ -227,7 +212,7 @@ pub(crate) fn write_block(
         return Ok(());
     }
     let head = head(alloc, job, record.number, record.value)?;
-    write_headed(text, &head, cases)
+    write_headed(text, &job.settings.style, &head, cases)
 }
 
 /// Whether no rule is broken.

@@ -288,10 +288,7 @@ fn take_long_line<M: Write>(
 ///
 /// ```
 /// let rules = read_checks(alloc, b"adult: /age >= 18")?;
-/// let settings = Settings {
-///     report: Report::First,
-///     id: None,
-/// };
+/// let settings = Settings::new(Report::First, None);
 /// let job = Job::new(&rules, &settings);
 /// let mut records: &[u8] = b"{\"age\": 30}\n{\"age\": 17}\n";
 /// let mut streams = Streams {

@@ -1,6 +1,8 @@
 //! What a run writes.
 ghost use Rattle.std.specs.Prelude.{◌≡◌};
-ghost use Rattle.vet_run.specs.Settings.{tells};
+ghost use Rattle.vet_run.specs.Settings.{block_style, tells};
+
+use predicates_style::Style;
 
 /// What a run writes of each record.
 #[derive(Clone, Copy, Debug, PartialEq, Eq)]
@@ -40,9 +42,37 @@ impl Report {
 }
 
 /// How a run reports.
-#[derive(Debug, Drop)]
+#[derive(Drop)]
 pub struct Settings {
     pub report: Report,
     /// The path of the value that labels a record, beside where it stands.
     pub id: Option<String>,
+    /// How blocks, and the lines that GitHub shows, write a case.
+    pub style: Style,
+}
+
+impl Settings {
+    /// Settings by which a case shows at most 1,000 parts of a node and 1,000 characters of a
+    /// value, and has its control characters escaped, so that none reaches a terminal.
+    ///
+    /// ```
+    /// let settings = Settings::new(Report::First, None);
+    /// assert!(rt; settings.style.children == Some(1000) && !settings.style.colours);
+    /// ```
+    pub fn new(report: Report, id: Option<String>) -> Settings
+        ensures report { result.report ≡ report }
+        ensures id { result.id ≡ id }
+        ensures style { result.style ≡ block_style }
+    {
+        Settings {
+            report,
+            id,
+            style: Style {
+                children: Some(1000),
+                characters: Some(1000),
+                escapes: true,
+                ..Style::new()
+            },
+        }
+    }
 }

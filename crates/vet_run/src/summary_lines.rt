@@ -4,13 +4,13 @@ ghost use Rattle.std.specs.Prelude.{decimal, string_bytes};
 ghost use Rattle.std.specs.Prelude.{replicate, slice_index, IsPermutation};
 ghost use Rattle.std.specs.List.Sorted.{IsNonDecreasingBy, IsStableByKey};
 ghost use Rattle.std.specs.Ordering.{nat_cmp};
-ghost use Rattle.vet_checks.specs.RuleChecks.{name_of};
-ghost use Rattle.vet_run.specs.Summaries.{bar_text, columns_of, count_text, row_of, rows_of};
+ghost use Rattle.vet_run.specs.Summaries.{bar_text, columns_of, count_text, row_of};
 ghost use Rattle.vet_run.specs.Summaries.{row_text, unit_of};
 ghost use Rattle.vet_run.specs.Summaries.{falling, scale_text, IsSummary};
+ghost use Rattle.vet_run.specs.Sums.{named_of};
 
+use crate::summary::RuleCount;
 use std::alloc::{AllocError, Global};
-use vet_checks::RuleCheck;
 
 /// A rule's name, and how many records break it.
 #[derive(Clone, Copy)]
@@ -32,21 +32,15 @@ pub(crate) fn count_at(counts: &[u64], index: usize) -> u64
     }
 }
 
-// The rules in their order, each with its count.
-fn rows<'r>(
-    alloc: Global,
-    rules: &'r [RuleCheck],
-    broken: &[u64],
-) -> Result<Vec<Row<'r>>, AllocError>
-    ensures { IfOk result (λ rows.
-        map row_of rows.items ≡ rows_of 0 (map name_of rules.now) broken.now) }
+// A row for each rule.
+fn rows(alloc: Global, rules: &[RuleCount]) -> Result<Vec<Row<'_>>, AllocError>
+    ensures { IfOk result (λ rows. map row_of rows.items ≡ map named_of rules.now) }
 {
     let mut rows = Vec::new(alloc);
     for rule in rules {
-        let count = count_at(broken, rows.len());
         rows.push(Row {
-            name: &rule.name,
-            count,
+            name: &rule.rule,
+            count: rule.broken,
         })?;
     }
     Ok(rows)
@@ -190,20 +184,11 @@ fn push_scale(alloc: Global, text: &mut String, unit: u64) -> Result<(), AllocEr
     text.push_str(&line)
 }
 
-/// A line for each rule: how many records break it, a bar and its name, in columns. Rules that more
-/// records break stand before others, and those that as many break in the order of the file. A bar
-/// has a `#` for each record, or where a rule is broken by more than 40, for as many as it takes
-/// for none to be longer; then a last line says for how many. It takes memory for the lines and a
-/// row for each rule.
-///
-/// ```
-/// let lines = summary(alloc, &rules, &[1, 3])?;
-/// assert!(rt; lines.as_str() == "3  ###  b\n1  #    a\n");
-/// ```
-pub fn summary(alloc: Global, rules: &[RuleCheck], broken: &[u64]) -> Result<String, AllocError>
-    ensures { IfOk result (λ text. IsSummary rules.now broken.now (string_bytes text)) }
+/// A line for each rule, and one for the scale.
+pub(crate) fn summary_lines(alloc: Global, rules: &[RuleCount]) -> Result<String, AllocError>
+    ensures { IfOk result (λ text. IsSummary (map named_of rules.now) (string_bytes text)) }
 {
-    let mut rows = rows(alloc, rules, broken)?;
+    let mut rows = rows(alloc, rules)?;
     rank(&mut rows)?;
     let mut text = String::new(alloc);
     let columns = columns_of(alloc, &rows)?;

@@ -9,10 +9,7 @@ use vet_run::settings::{Report, Settings};
 use vet_run::{Job, Streams, Tally, junit, read_checks, run_records};
 
 fn settings() -> Settings {
-    Settings {
-        report: Report::JUnit,
-        id: None,
-    }
+    Settings::new(Report::JUnit, None)
 }
 
 // The document of a run over records.

@@ -1,9 +1,9 @@
-//! How many records break each rule, as lines.
+//! How many records break each rule, as lines and as JSON.
 use std::alloc::{AllocError, Global};
 use tests_sweep::Memory::Taken;
 use tests_sweep::{Answer, Call, sweep};
 use vet_checks::RuleCheck;
-use vet_run::{read_checks, summary};
+use vet_run::{ReadSummaryError, Summary, Tally, read_checks};
 
 // The lines for two rules, of which none is broken, or the second by three records.
 #[derive(Clone, Copy)]
@@ -24,8 +24,10 @@ impl Call for Summing<'_> {
     }
 
     fn call(&self, alloc: Global, rules: Vec<RuleCheck>) -> Result<Answer, AllocError> {
-        let lines = summary(alloc, rules.as_slice(), self.broken)?;
-        Ok(Answer::Text(lines))
+        let mut tally = Tally::new(alloc, None);
+        tally.broken.extend_from_slice(self.broken)?;
+        let summary = Summary::of(alloc, &rules, &tally)?;
+        Ok(Answer::Text(summary.lines(alloc)?))
     }
 }
 
@@ -49,4 +51,34 @@ fn summaries(rt: HostRuntime) {
         Taken,
     )
     .expect(&rt, "memory")
+}
+
+const OBJECT: &str = "{\"records\":4,\"failed\":1,\"unreadable\":0,\
+    \"rules\":[{\"rule\":\"a\\\"\",\"broken\":1},{\"rule\":\"b\",\"broken\":0}]}";
+
+// The object of what is read of an object.
+#[derive(Clone, Copy)]
+struct Rewriting;
+
+impl Call for Rewriting {
+    type Operand = ();
+
+    type Answer = Answer;
+
+    fn operand(&self, _alloc: Global) -> Result<(), AllocError> {
+        Ok(())
+    }
+
+    fn call(&self, alloc: Global, _operand: ()) -> Result<Answer, AllocError> {
+        match Summary::read(alloc, OBJECT.as_bytes()) {
+            Ok(summary) => Ok(Answer::Text(summary.to_json(alloc)?)),
+            Err(ReadSummaryError::NoMemory) => Err(AllocError),
+            Err(_) => Ok(Answer::Text(String::new(alloc))),
+        }
+    }
+}
+
+#[test]
+fn objects_of_summaries(rt: HostRuntime) {
+    sweep(&rt, "summary as JSON", &Rewriting, OBJECT, Taken).expect(&rt, "memory")
 }

@@ -114,7 +114,7 @@ impl Call for Running<'_> {
             None => None,
         };
         let report = self.report;
-        Ok((checks, Settings { report, id }))
+        Ok((checks, Settings::new(report, id)))
     }
 
     fn call(

@@ -2,7 +2,7 @@
 use std::alloc::Global;
 use std::process::Abort;
 use tests_support::Process;
-use vet_program::run_program;
+use vet_program::{Terminals, run_program};
 
 // What is typed, behind `$ `, and what is written then.
 const STEPS: [&str; 5] = [
@@ -11,7 +11,7 @@ $ echo 'adult: /age >= 18' > rules
 $ echo '{\"name\": \"Ada\", \"age\": 36}' > guests
 $ echo '{\"name\": \"Zoe\", \"age\": 17}' >> guests
 $ vet rules guests
-record 2: false
+guests:2: false
 adult = false
   rule: /age >= 18 = false
     - found: 17
@@ -22,7 +22,7 @@ $ echo $?
     "\
 $ echo 'known: /name in [\"Ada\", \"Alan\"] or /invited == true' >> rules
 $ vet --all rules guests
-record 2: false
+guests:2: false
 adult = false
   rule: /age >= 18 = false
     - found: 17
@@ -39,7 +39,7 @@ $ echo 'adult: if /alone == true then /age >= 18' > rules
 $ echo 'bags: each /bags (/kilos <= 20 and /tag matches \"^[A-Z]{3}$\")' >> rules
 $ echo '{\"age\": 17, \"bags\": [{\"kilos\": 9, \"tag\": \"OSL\"}, {\"kilos\": 8, \"tag\": \"bgo\"}]}' > guests
 $ vet rules guests
-record 1: false
+guests:1: false
 bags = false
   rule: each /bags (/kilos <= 20 and /tag matches \"^[A-Z]{3}$\") = false
     item: /kilos <= 20 and /tag matches \"^[A-Z]{3}$\" = false
@@ -110,7 +110,13 @@ fn call(rt: &impl Abort, alloc: Global, desk: &mut Desk, line: &'static str) {
         files.push((*name, text.as_slice())).expect(rt, "memory");
     }
     let process = Process::new(alloc, words.as_slice(), files.as_slice(), b"");
-    let status = run_program(&process, false);
+    let status = run_program(
+        &process,
+        Terminals {
+            output: false,
+            error: false,
+        },
+    );
     let (output, told) = process.into_written();
     desk.written.extend_from_slice(&output).expect(rt, "memory");
     desk.written.extend_from_slice(&told).expect(rt, "memory");

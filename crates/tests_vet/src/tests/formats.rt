@@ -2,7 +2,7 @@
 use std::alloc::Global;
 use std::process::Abort;
 use tests_support::Process;
-use vet_program::run_program;
+use vet_program::{Terminals, run_program};
 
 // Words, and the status, standard output and standard error.
 type Row = (&'static [&'static [u8]], u8, &'static str, &'static str);
@@ -110,7 +110,7 @@ vet: d,e:f%:1: not JSON: EOF while parsing at its end
 ];
 
 const DOCUMENTS: [Row; 5] = [
-    // A document of one file, whose name stands nowhere.
+    // A document of one file, at whose name the records stand.
     (
         &[b"vet", b"--format", b"junit", b"rules", b"one"],
         1,
@@ -119,12 +119,12 @@ const DOCUMENTS: [Row; 5] = [
 <testsuites>
 <testsuite name=\"rules\" tests=\"2\" failures=\"2\" errors=\"0\">
 <testcase name=\"a, b: 5%\" classname=\"vet\">\
-    <failure message=\"1 record breaks it\">record 2: false
+    <failure message=\"1 record breaks it\">one:2: false
 a, b: 5% = false
   rule: / == 1 = false
     - found: 4
 </failure></testcase>
-<testcase name=\"c\" classname=\"vet\"><failure message=\"1 record breaks it\">record 2: false
+<testcase name=\"c\" classname=\"vet\"><failure message=\"1 record breaks it\">one:2: false
 c = false
   rule: / &lt; 3 = false
     - found: 4
@@ -297,7 +297,13 @@ const WRONG_NAMES: [Row; 2] = [
 fn ends(alloc: Global, row: Row) -> bool {
     let (words, status, output, messages) = row;
     let process = Process::new(alloc, words, &FILES, INPUT);
-    let found = run_program(&process, true);
+    let found = run_program(
+        &process,
+        Terminals {
+            output: false,
+            error: true,
+        },
+    );
     let (written, told) = process.into_written();
     found == status
         && written.as_slice() == output.as_bytes()

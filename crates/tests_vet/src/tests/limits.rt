@@ -1,5 +1,6 @@
 //! What is large, deep or seldom: long lines and rules, many rules, records that nest, and outputs
 //! and inputs that are not as they mostly are.
+mod colours;
 mod hints;
 mod labels;
 mod lines;
@@ -12,7 +13,7 @@ mod rules;
 use std::alloc::Global;
 use std::process::Abort;
 use tests_support::Process;
-use vet_program::run_program;
+use vet_program::{Terminals, run_program};
 
 // What opens a level, so often, then the innermost, and what closes a level, so often.
 fn nested(
@@ -35,7 +36,13 @@ fn nested(
 
 // The status, standard output and standard error.
 fn told(process: Process<'_>) -> (u8, Vec<u8>, Vec<u8>) {
-    let status = run_program(&process, false);
+    let status = run_program(
+        &process,
+        Terminals {
+            output: false,
+            error: false,
+        },
+    );
     let (output, error) = process.into_written();
     (status, output, error)
 }

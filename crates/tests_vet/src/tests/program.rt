@@ -3,7 +3,7 @@ use std::alloc::Global;
 use std::io::ErrorKind;
 use std::process::Abort;
 use tests_support::{Closed, Process};
-use vet_program::run_program;
+use vet_program::{Terminals, run_program};
 
 // Words, the rules, an input and the error at its end, the output that fails, and the status,
 // standard output and standard error.
@@ -655,7 +655,7 @@ const FAULTS: [Row; 7] = [
     (PLAIN, b"a: / == 1", b"[", None, Closed::Error, 2, "", ""),
 ];
 
-const FILES: [Row; 7] = [
+const FILES: [Row; 9] = [
     // So is one whose name is not UTF-8.
     (
         &[b"vet", b"rules", b"\xc3\xa9\xff\xfe", b"one"],
@@ -675,8 +675,35 @@ const FILES: [Row; 7] = [
         None,
         Closed::Neither,
         1,
-        BLOCK,
+        "one:1: false\na = false\n  rule: / == 1 = false\n    - found: 2\n",
         "2 records, 1 failed\n",
+    ),
+    // So do the faults of the only one, but not with objects, which have no name of it.
+    (
+        &[b"vet", b"rules", b"bad"],
+        b"a: / == 1",
+        b"",
+        None,
+        Closed::Neither,
+        2,
+        "",
+        "\
+vet: bad:1: not JSON: EOF while parsing at its end
+1 record, 0 failed, 1 line unreadable
+",
+    ),
+    (
+        &[b"vet", b"--json", b"rules", b"bad"],
+        b"a: / == 1",
+        b"",
+        None,
+        Closed::Neither,
+        2,
+        "{\"record\":2,\"holds\":true}\n",
+        "\
+vet: record 1: not JSON: EOF while parsing at its end
+1 record, 0 failed, 1 line unreadable
+",
     ),
     (
         &[b"vet", b"rules", b"one", b"-", b"two"],
@@ -754,7 +781,7 @@ vet: bad:1: not JSON: EOF while parsing at its end
 ];
 
 // Flags, each with its value.
-const FLAGS: [&[&[u8]]; 10] = [
+const FLAGS: [&[&[u8]]; 12] = [
     &[b"--failed"],
     &[b"--passed"],
     &[b"--all"],
@@ -765,6 +792,8 @@ const FLAGS: [&[&[u8]]; 10] = [
     &[b"--max", b"1"],
     &[b"--id", b"/"],
     &[b"--progress"],
+    &[b"--parts", b"1"],
+    &[b"--color", b"never"],
 ];
 
 // Which of them can't stand together, by their places.
@@ -791,7 +820,13 @@ fn run<'a>(
     let mut process = Process::new(alloc, words, files, input);
     process.end = end;
     process.closed = closed;
-    let status = run_program(&process, true);
+    let status = run_program(
+        &process,
+        Terminals {
+            output: false,
+            error: true,
+        },
+    );
     let (output, error) = process.into_written();
     (status, output, error)
 }

@@ -6,7 +6,7 @@ use std::alloc::Global;
 use std::io::ErrorKind;
 use std::process::Abort;
 use tests_support::{Closed, Process};
-use vet_program::run_program;
+use vet_program::{Terminals, run_program};
 
 // Words, the tick, what the file of standard input has, where it is one, standard input, and
 // standard error.
@@ -41,16 +41,17 @@ const LINES: [Row; 3] = [
     (PLAIN, 20, None, b"1\n2\n1\n", "3 records, 1 failed\n"),
 ];
 
-const SHARES: [Row; 5] = [
+const SHARES: [Row; 6] = [
     // The share, of all files together.
     (
         &[b"vet", b"--progress", b"rules", b"one", b"two"],
         200,
         None,
         b"",
-        "\r2 lines, 50 %, 10 a second\x1b[K\r2 lines, 50 %, 5 a second\x1b[K\r\x1b[K\
-         \r4 lines, 100 %, 6 a second\x1b[K\r4 lines, 100 %, 5 a second\x1b[K\
-         \r4 lines, 100 %, 4 a second\x1b[K\r\x1b[K4 records, 2 failed\n",
+        "\r2 lines, 50 %, 10 a second, 0 s left\x1b[K\
+         \r2 lines, 50 %, 5 a second, 0 s left\x1b[K\r\x1b[K\
+         \r4 lines, 100 %, 6 a second, 0 s left\x1b[K\r4 lines, 100 %, 5 a second, 0 s left\x1b[K\
+         \r4 lines, 100 %, 4 a second, 0 s left\x1b[K\r\x1b[K4 records, 2 failed\n",
     ),
     // Standard input may be a file.
     (
@@ -58,18 +59,29 @@ const SHARES: [Row; 5] = [
         200,
         Some(b"2\n1\n"),
         b"2\n1\n",
-        "\r0 lines, 25 %, 0 a second\x1b[K\r1 line, 50 %, 2 a second\x1b[K\
-         \r1 line, 75 %, 1 a second\x1b[K\r2 lines, 100 %, 2 a second\x1b[K\
-         \r2 lines, 100 %, 2 a second\x1b[K\r\x1b[K2 records, 1 failed\n",
+        "\r0 lines, 25 %, 0 a second, 0 s left\x1b[K\r1 line, 50 %, 2 a second, 0 s left\x1b[K\
+         \r1 line, 75 %, 1 a second, 0 s left\x1b[K\r2 lines, 100 %, 2 a second, 0 s left\x1b[K\
+         \r2 lines, 100 %, 2 a second, 0 s left\x1b[K\r\x1b[K2 records, 1 failed\n",
     ),
     (
         &[b"vet", b"--progress", b"rules", b"one", b"-"],
         400,
         Some(b"1\n"),
         b"1\n",
-        "\r2 lines, 66 %, 5 a second\x1b[K\r2 lines, 66 %, 2 a second\x1b[K\r\x1b[K\
-         \r2 lines, 83 %, 1 a second\x1b[K\r3 lines, 100 %, 1 a second\x1b[K\
-         \r3 lines, 100 %, 1 a second\x1b[K\r\x1b[K3 records, 1 failed\n",
+        "\r2 lines, 66 %, 5 a second, 0 s left\x1b[K\
+         \r2 lines, 66 %, 2 a second, 0 s left\x1b[K\r\x1b[K\
+         \r2 lines, 83 %, 1 a second, 0 s left\x1b[K\r3 lines, 100 %, 1 a second, 0 s left\x1b[K\
+         \r3 lines, 100 %, 1 a second, 0 s left\x1b[K\r\x1b[K3 records, 1 failed\n",
+    ),
+    // The time left, in minutes from two on.
+    (
+        PLAIN,
+        60_000,
+        Some(b"2\n1\n"),
+        b"2\n1\n",
+        "\r0 lines, 25 %, 0 a second, 3 min left\x1b[K\r1 line, 50 %, 0 a second, 2 min left\x1b[K\
+         \r1 line, 75 %, 0 a second, 60 s left\x1b[K\r2 lines, 100 %, 0 a second, 0 s left\x1b[K\
+         \r2 lines, 100 %, 0 a second, 0 s left\x1b[K\r\x1b[K2 records, 1 failed\n",
     ),
     // One that has grown, and one that had nothing.
     (
@@ -77,15 +89,15 @@ const SHARES: [Row; 5] = [
         200,
         Some(b"1"),
         b"1\n",
-        "\r0 lines, 100 %, 0 a second\x1b[K\r1 line, 100 %, 2 a second\x1b[K\
-         \r1 line, 100 %, 1 a second\x1b[K\r\x1b[K1 record, 0 failed\n",
+        "\r0 lines, 100 %, 0 a second, 0 s left\x1b[K\r1 line, 100 %, 2 a second, 0 s left\x1b[K\
+         \r1 line, 100 %, 1 a second, 0 s left\x1b[K\r\x1b[K1 record, 0 failed\n",
     ),
     (
         PLAIN,
         200,
         Some(b""),
         b"",
-        "\r0 lines, 0 %, 0 a second\x1b[K\r0 lines, 0 %, 0 a second\x1b[K\
+        "\r0 lines, 0 %, 0 a second, 0 s left\x1b[K\r0 lines, 0 %, 0 a second, 0 s left\x1b[K\
          \r\x1b[K0 records, 0 failed\n",
     ),
 ];
@@ -169,7 +181,13 @@ const FILES: [(&str, &[u8]); 3] = [
 
 // The status, standard output and standard error.
 fn run(process: Process<'_>, on_terminal: bool) -> (u8, Vec<u8>, Vec<u8>) {
-    let status = run_program(&process, on_terminal);
+    let status = run_program(
+        &process,
+        Terminals {
+            output: false,
+            error: on_terminal,
+        },
+    );
     let (output, error) = process.into_written();
     (status, output, error)
 }

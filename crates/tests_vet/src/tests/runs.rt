@@ -49,7 +49,7 @@ fn settings_of(rt: &impl Abort, alloc: Global, report: Report, id: Option<&str>)
         Some(path) => Some(String::from_str(alloc, path).expect(rt, "memory")),
         None => None,
     };
-    Settings { report, id }
+    Settings::new(report, id)
 }
 
 // Rules and records, what a run over them writes, and how many records it reads, finds broken and

@@ -63,10 +63,7 @@ const COUNTS: Counts = Counts {
 // Whether a run tells this of a line that has so many bytes before its line feed, and goes on.
 fn tells(rt: &impl Abort, alloc: Global, left: usize, message: &[u8]) -> bool {
     let rules = checks_of(rt, alloc, b"a: / == 1");
-    let settings = Settings {
-        report: Report::Lines(false),
-        id: None,
-    };
+    let settings = Settings::new(Report::Lines(false), None);
     let job = Job::new(&rules, &settings);
     let mut tally = Tally::new(alloc, None);
     let mut input = LongInput {

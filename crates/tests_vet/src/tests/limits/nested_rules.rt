@@ -48,7 +48,7 @@ const COUNTS: Counts = Counts {
 // Whether a run over the records counts so.
 fn is_counted(rt: &impl Abort, alloc: Global, rule: &str, records: &str, report: Report) -> bool {
     let rules = checks_of(rt, alloc, rule.as_bytes());
-    let settings = Settings { report, id: None };
+    let settings = Settings::new(report, None);
     let job = Job::new(&rules, &settings);
     let mut tally = Tally::with_blocks(alloc, &rules, None).expect(rt, "memory");
     let mut input = records.as_bytes();

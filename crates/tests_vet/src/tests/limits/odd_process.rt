@@ -10,12 +10,14 @@ use std::time::Duration;
 use tests_support::{OpenedFile, Process, Slow};
 
 /// A process, but for its standard output, of which each write fails with an error of the kind,
-/// where there is one, and for the input of the name, which is read as before and is a folder.
+/// where there is one, for the input of the name, which is read as before and is a folder, and for
+/// the variables of its environment.
 #[derive(Drop)]
 pub(super) struct OddProcess<'a> {
     pub(super) held: Process<'a>,
     pub(super) fault: Option<ErrorKind>,
     pub(super) folder: &'a str,
+    pub(super) variables: &'a [(&'a str, &'a [u8])],
 }
 
 impl OddProcess<'_> {
@@ -51,7 +53,16 @@ impl Env for OddProcess<'_> {
     }
 
     fn var(&self, name: &str, buf: &mut [u8]) -> Result<usize, FillError> {
-        self.held.var(name, buf)
+        let mut variables = self.variables.iter();
+        let Some((_, text)) = variables.find(|(known, _)| *known == name) else {
+            return Err(FillError::NotPresent);
+        };
+        let len = text.len();
+        if len > buf.len() {
+            return Err(FillError::TooLong);
+        }
+        buf[..len].copy_from_slice(text);
+        Ok(len)
     }
 
     fn var_at(&self, i: usize, buf: &mut [u8]) -> Result<usize, FillError> {

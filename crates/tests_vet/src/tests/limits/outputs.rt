@@ -6,12 +6,16 @@ use std::alloc::Global;
 use std::io::ErrorKind;
 use std::process::Abort;
 use tests_support::{Closed, Process};
-use vet_program::run_program;
+use vet_program::{Terminals, run_program};
 
-const FILES: [(&str, &[u8]); 3] = [
+const FILES: [(&str, &[u8]); 4] = [
     ("rules", b"a: / == 1"),
     ("one", b"2\n1\n"),
     ("two", b"1\n\n3"),
+    (
+        "sum",
+        b"{\"records\":0,\"failed\":0,\"unreadable\":0,\"rules\":[{\"rule\":\"a\",\"broken\":0}]}",
+    ),
 ];
 
 type Words = &'static [&'static [u8]];
@@ -34,10 +38,11 @@ const BEFORE_THE_END: [Row; 6] = [
 ];
 
 // Those that write no more than a document, or the help.
-const AT_THE_END: [Row; 3] = [
+const AT_THE_END: [Row; 4] = [
     (&[b"vet", b"--format", b"junit", b"rules"], b"1"),
     (&[b"vet", b"--format", b"junit", b"rules"], b"2"),
     (&[b"vet", b"--help"], b""),
+    (&[b"vet", b"--merge", b"sum"], b""),
 ];
 
 // Whether the program has this status and tells this and no more, where each write of the output
@@ -48,8 +53,15 @@ fn ends(alloc: Global, row: Row, kind: ErrorKind, status: u8, messages: &[u8]) -
         held: Process::new(alloc, words, &FILES, input),
         fault: Some(kind),
         folder: "",
+        variables: &[],
     };
-    let found = run_program(&process, false);
+    let found = run_program(
+        &process,
+        Terminals {
+            output: false,
+            error: false,
+        },
+    );
     let (output, error) = process.held.into_written();
     found == status && output.is_empty() && error.as_slice() == messages
 }
@@ -198,8 +210,15 @@ fn shows_no_share(alloc: Global, folder: &'static str) -> bool {
         held,
         fault: None,
         folder,
+        variables: &[],
     };
-    let status = run_program(&process, true);
+    let status = run_program(
+        &process,
+        Terminals {
+            output: false,
+            error: true,
+        },
+    );
     let (_, error) = process.held.into_written();
     status == 1 && error.as_slice() == WITHOUT_SHARE
 }

@@ -68,10 +68,7 @@ fn ran(
     let Ok(checks) = read_checks(alloc, b"a: /x == 1") else {
         return None;
     };
-    let settings = Settings {
-        report: Report::First,
-        id: None,
-    };
+    let settings = Settings::new(Report::First, None);
     let job = Job::new(&checks, &settings);
     let mut tally = Tally::new(alloc, None);
     let output = Narrow {

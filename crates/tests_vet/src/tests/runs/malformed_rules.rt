@@ -16,10 +16,7 @@ fn text_of(rt: &impl Abort, alloc: Global, bytes: &[u8]) -> String {
 
 // Why the rules are not read, or what is written of the record by them.
 fn told(rt: &impl Abort, alloc: Global, rules: &[u8], record: &[u8]) -> String {
-    let settings = Settings {
-        report: Report::All,
-        id: None,
-    };
+    let settings = Settings::new(Report::All, None);
     match run_of(alloc, &settings, rules, record) {
         Ok((output, _, Ok(_))) => text_of(rt, alloc, &output),
         Ok(_) => String::from_str(alloc, "a fault").expect(rt, "memory"),
