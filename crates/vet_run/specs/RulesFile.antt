@@ -69,6 +69,7 @@ pub data HasTold (lines : List (List ℕ)) : ℕ → List Placed → List RuleFa
 abbrev pub most_told : ℕ
 most_told = 20
 
+-- what is told of lines where some have faults
 pub data AreTold (lines : List (List ℕ)) : List RuleFault → Type 0 where
   -- the faults of all lines
   all_told : {i : ℕ} {rs : List Placed} {ts : List RuleFault} → HasTold lines i rs ts
@@ -107,6 +108,7 @@ abbrev pub IsToldOf : ℕ → Option (List ℕ × Tree) → Option RuleFault →
 IsToldOf number None told = told ≡ None
 IsToldOf number (Some r) told = IsToldOfRule number r told
 
+-- the same of a line, whose rule is not known, which has no line feed
 abbrev pub IsToldOn : ℕ → List ℕ → Option RuleFault → Type 0
 IsToldOn number line told = (o : Option (List ℕ × Tree)) → IsOneLine line
     → IsLine max_depth line o → IsToldOf number o told

@@ -151,6 +151,7 @@ fn fault_at(
     }
 }
 
+// The lines of the text, without its byte order mark.
 fn lines_of<'a>(alloc: Global, text: &'a [u8]) -> Result<Vec<&'a [u8]>, AllocError>
     ensures { IfOk result (λ lines. map (λ line. line.now) lines.items ≡ lines_of text.now) }
 {
