@@ -1,4 +1,7 @@
-use Rattle.std.proofs.Common.{◌+◌, arith, ap, ◌∙◌, refl, rules}
+use Rattle.std.proofs.Common.{◌+◌, arith, ap, ◌∙◌, map, refl, rules}
+use Rattle.std.proofs.lemmas.List.{take_all}
+use Rattle.vet_checks.specs.RuleChecks.{name_of}
+use Rattle.vet_run.specs.Summaries.{rows_of}
 use Rattle.std.specs.Prelude.{slice_index}
 use Rattle.vet_run.specs.Sums.{sum_of}
 use Rattle.vet_run.proofs.Ranking.{row_more}
@@ -16,4 +19,5 @@ loop-rule-preserved c = record {
 pub returns-clause-over : goal.returns-clause-over
 returns-clause-over c =
     λ lines counted all. run_counted c.args.rules.now lines _ c.args.tally.now.counts c.args.tally.now.broken.items
-    (sum_of (record { counts = c.args.tally.now.counts; rules = c.loop-rule.counted })) refl refl refl refl refl refl (search rules) counted all
+    (sum_of (record { counts = c.args.tally.now.counts; rules = c.loop-rule.counted })) refl refl refl refl refl refl
+    (c.loop-rule.invariant.rows ∙ ap (λ rs. rows_of 0 (map name_of rs) c.args.tally.now.broken.items) (take_all c.loop-rule.rule-index c.args.rules.now (omega (arith, c.loop-rule-test.false)))) counted all
