@@ -10,6 +10,7 @@ mod first_blocks;
 mod github;
 mod input_format;
 mod job;
+mod judgement;
 mod line;
 mod mark;
 mod object;
