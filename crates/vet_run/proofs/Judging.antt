@@ -1,8 +1,8 @@
 -- Which rules a record breaks, one after the other.
-use Rattle.std.proofs.Common.{◌≡◌, ℕ, suc, ◌+◌, ◌<◌, ◌≤◌, Bool, true, false, List, [], ◌∷◌, ◌++◌, length, map, take, drop, get_or, refl, sym, ap, ◌∙◌, subst, append-nil, append_assoc, add-one, drop-cons}
+use Rattle.std.proofs.Common.{◌≡◌, ℕ, suc, ◌+◌, ◌<◌, ◌≤◌, Bool, true, false, List, [], ◌∷◌, ◌++◌, length, map, take, drop, get_or, refl, sym, ap, ◌∙◌, subst, arith, append-nil, append_assoc, add-one, drop-cons}
 use Rattle.std.specs.Prelude.{not, ◌&&◌, ◌||◌, ◌==◌, cond}
 use Rattle.std.proofs.lemmas.Bool.Decides.{nat_tests}
-use Rattle.std.proofs.lemmas.List.{drop_all, length-map, take-map}
+use Rattle.std.proofs.lemmas.List.{drop_all, length-map, map-append, take-map, take_more}
 use Rattle.serde_json.specs.Data.{Data}
 use Rattle.predicates_core.specs.Formula.{truth}
 use Rattle.vet_checks.specs.declared.rule_check.RuleCheck.{RuleCheck}
@@ -35,6 +35,10 @@ none_of_shown : {X : Type 0} (all : Bool) (xs : List X) → (length (shown all x
 none_of_shown true xs = refl
 none_of_shown false [] = refl
 none_of_shown false (x ∷ xs) = suc_not_zero 0 ∙ sym (suc_not_zero (length xs))
+
+-- one rule more
+pub placed_more : (bs : List Broken) (k : ℕ) (b : Broken) → k < length bs → b ≡ get_or bs k b → map placed (take (k + 1) bs) ≡ map placed (take k bs) ++ placed b ∷ []
+placed_more bs k b within is = ap (map placed) (take_more bs k b within ∙ ap (λ z. take k bs ++ z ∷ []) (sym is)) ∙ map-append placed (take k bs) (b ∷ [])
 
 module _ (d : Data) where
   drop_is : (us : List RuleCheck) (k : ℕ) (u : RuleCheck) → k < length us → u ≡ get_or us k u → drop k us ≡ u ∷ drop (k + 1) us
@@ -130,17 +134,19 @@ module _ (d : Data) where
   rules_from : (all : Bool) (k : ℕ) (us : List RuleCheck) → broken (map (λ (b : Placed). b.1) (shown all (broken_from k us d))) d ≡ shown all (broken us d)
   rules_from true k [] = refl
   rules_from false k [] = refl
-  rules_from all k (u ∷ us) = one all (truth (formula_on d u)) refl
+  rules_from all k (u ∷ us) = one all (truth (formula_on d u)) refl (λ some. rules_from some (k + 1) us)
     where
-      one : (all b : Bool) → truth (formula_on d u) ≡ b → broken (map (λ (b : Placed). b.1) (shown all (broken_from k (u ∷ us) d))) d ≡ shown all (broken (u ∷ us) d)
-      one all true e =
-          ap (λ z. broken (map (λ (b : Placed). b.1) (shown all z)) d) (kept_from k u us e) ∙ rules_from all (k + 1) us
+      one : (all b : Bool) → truth (formula_on d u) ≡ b
+          → ((some : Bool) → broken (map (λ (b : Placed). b.1) (shown some (broken_from (k + 1) us d))) d ≡ shown some (broken us d))
+          → broken (map (λ (b : Placed). b.1) (shown all (broken_from k (u ∷ us) d))) d ≡ shown all (broken (u ∷ us) d)
+      one all true e others =
+          ap (λ z. broken (map (λ (b : Placed). b.1) (shown all z)) d) (kept_from k u us e) ∙ others all
           ∙ ap (shown all) (sym (broken_one u us true e))
-      one true false e =
+      one true false e others =
           ap (λ z. broken (map (λ (b : Placed). b.1) z) d) (one_from k u us e)
           ∙ broken_one u (map (λ (b : Placed). b.1) (broken_from (k + 1) us d)) false e
-          ∙ ap (λ z. formula_on d u ∷ z) (rules_from true (k + 1) us) ∙ sym (broken_one u us false e)
-      one false false e =
+          ∙ ap (λ z. formula_on d u ∷ z) (others true) ∙ sym (broken_one u us false e)
+      one false false e others =
           ap (λ z. broken (map (λ (b : Placed). b.1) (take 1 z)) d) (one_from k u us e) ∙ broken_one u [] false e
           ∙ ap (take 1) (sym (broken_one u us false e))
 
