@@ -1,6 +1,6 @@
 -- What is written for one record.
 use Rattle.std.specs.Prelude.{◌≡◌, ◌⊎◌, ℕ, List, [], ◌∷◌, ◌++◌, ◌==◌, Bool, true, false, ◌&&◌}
-use Rattle.std.specs.Prelude.{Option, Some, None, cond, take, length, codes, flat_map}
+use Rattle.std.specs.Prelude.{Option, cond, take, length, codes, flat_map}
 use Rattle.std.specs.List.{AllZip}
 use mathlib.Core.Bool.{beq}
 use Rattle.serde_json.specs.Data.{Data}
