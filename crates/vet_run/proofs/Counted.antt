@@ -1,16 +1,21 @@
 -- Lines, and the rules that they break, are counted one after the other.
-use Rattle.std.proofs.Common.{◌≡◌, ℕ, zero, suc, ◌+◌, ◌<◌, ◌≤◌, ◌||◌, Bool, true, false, not, List, [], ◌∷◌, ◌++◌, length, take, set, get_or, Option, Some, None, refl, sym, ◌∙◌, ap, subst, arith, add_assoc, add-zero, length-append, if◌then◌else◌}
-use Rattle.std.specs.Prelude.{filter, is_some, option_map}
-use Rattle.std.proofs.lemmas.List.{take_more, take_all, length-take-le}
+use Rattle.std.proofs.Common.{◌≡◌, ℕ, suc, ◌+◌, ◌<◌, ◌≤◌, ◌||◌, Bool, true, false, not, List, [], ◌∷◌, ◌++◌, length, map, take, get_or, Option, Some, None, refl, sym, ◌∙◌, ap, subst, arith, add_assoc, add-zero, length-append, if◌then◌else◌}
+use Rattle.std.specs.Prelude.{filter, is_some, option_map, ◌&&◌, ◌==◌, cond}
+use Rattle.std.proofs.lemmas.Bool.Decides.{nat_tests}
+use Rattle.std.proofs.lemmas.List.{set_past}
 use Rattle.std.proofs.lemmas.List.Elements.{filter-append}
 use Rattle.serde_json.specs.Data.{Data}
 use Rattle.vet_checks.specs.declared.rule_check.RuleCheck.{RuleCheck}
-use Rattle.vet_run.specs.Counting.{is_false, breaks, one_if, CountsOne, number_of, AreCounted, breaks_one, AddsCount, one_counted, all_counted}
+use Rattle.vet_run.specs.Counting.{is_false, breaks, one_if, CountsOne, number_of, AreCounted, breaks_one, one_counted, all_counted}
 use Rattle.vet_run.specs.InputLines.{record_taken, is_blank_taken, is_unreadable}
-use Rattle.predicates_core.specs.Formula.{HasTruth}
-use Rattle.predicates_core.specs.Leaves.{IsExactly}
-use Rattle.vet_run.specs.Records.{keeps, formula_on}
+use Rattle.vet_run.specs.Judgements.{Placed, placed, broken_from, counted_at, counted_each, asks_all}
+use Rattle.predicates_core.specs.Formula.{truth}
+use Rattle.vet_run.specs.Records.{keeps, formula_on, shown}
+use Rattle.vet_run.specs.Settings.{shows_all}
 use Rattle.vet_run.specs.declared.counts.Counts.{Counts}
+use Rattle.vet_run.specs.declared.judgement.Broken.{Broken}
+use Rattle.vet_run.specs.declared.settings.Report.{Report}
+use Rattle.vet_run.proofs.Judging.{placed_more}
 
 -- one more line counts where it passes the test
 filter_more : (p : Option (List ℕ) → Bool) (lines : List (Option (List ℕ))) (l : Option (List ℕ)) (b : Bool) → p l ≡ b
@@ -70,57 +75,73 @@ rules_counted_more lines line (r ∷ rules) (n ∷ ns) =
     (add_assoc n (number_of p lines) (one_if (p line)) ∙ ap (λ z. n + z) (sym (filter_more p lines line (p line) refl)))
     ∙ ap (λ z. (n + number_of p (lines ++ line ∷ [])) ∷ z) (rules_counted_more lines line rules ns)
 
--- without rules nothing is counted
-pub none_of_no_rules : (o : Option Data) (ns : List ℕ) → one_counted [] o ns ≡ ns
+-- without rules nothing is counted, nor without places
+none_of_no_rules : (o : Option Data) (ns : List ℕ) → one_counted [] o ns ≡ ns
 none_of_no_rules o [] = refl
 none_of_no_rules o (n ∷ ns) = refl
 
-kept_rule : (rs : List RuleCheck) (r : RuleCheck) (o : Option Data) (ns : List ℕ) → breaks_one r o ≡ false
-    → one_counted (rs ++ r ∷ []) o ns ≡ one_counted rs o ns
-kept_rule [] r o [] e = refl
-kept_rule [] r o (n ∷ ns) e =
-    ap (λ b. (n + one_if b) ∷ one_counted [] o ns) e ∙ ap (λ z. z ∷ one_counted [] o ns) (add-zero n) ∙ ap (λ z. n ∷ z) (none_of_no_rules o ns)
-kept_rule (x ∷ rs) r o [] e = refl
-kept_rule (x ∷ rs) r o (n ∷ ns) e = ap (λ z. (n + one_if (breaks_one x o)) ∷ z) (kept_rule rs r o ns e)
+none_without_places : (bs : List Placed) → counted_each bs [] ≡ []
+none_without_places [] = refl
+none_without_places (b ∷ bs) = none_without_places bs
 
-broken_rule : (rs : List RuleCheck) (r : RuleCheck) (o : Option Data) (ns : List ℕ) → breaks_one r o ≡ true
-    → one_counted (rs ++ r ∷ []) o ns ≡ set (one_counted rs o ns) (length rs) (get_or (one_counted rs o ns) (length rs) 0 + 1)
-broken_rule [] r o [] e = refl
-broken_rule [] r o (n ∷ ns) e =
-    ap (λ b. (n + one_if b) ∷ one_counted [] o ns) e ∙ ap (λ z. (n + 1) ∷ z) (none_of_no_rules o ns)
-broken_rule (x ∷ rs) r o [] e = refl
-broken_rule (x ∷ rs) r o (n ∷ ns) e = ap (λ z. (n + one_if (breaks_one x o)) ∷ z) (broken_rule rs r o ns e)
+module _ (d : Data) where
+  -- rules that stand one place further on count one place further on
+  shifted : (k : ℕ) (us : List RuleCheck) (n : ℕ) (ns : List ℕ) → counted_each (broken_from (suc k) us d) (n ∷ ns) ≡ n ∷ counted_each (broken_from k us d) ns
+  shifted k [] n ns = refl
+  shifted k (u ∷ us) n ns =
+      let same : suc (k + 1) ≡ suc k + 1 = omega arith in
+      let further : (ms : List ℕ) → counted_each (broken_from (suc k + 1) us d) (n ∷ ms) ≡ n ∷ counted_each (broken_from (k + 1) us d) ms =
+      λ ms. subst (λ i. counted_each (broken_from i us d) (n ∷ ms) ≡ n ∷ counted_each (broken_from (k + 1) us d) ms) same (shifted (k + 1) us n ms) in
+      one (truth (formula_on d u)) (further ns) (further (counted_at k ns))
+    where
+      one : (b : Bool) → counted_each (broken_from (suc k + 1) us d) (n ∷ ns) ≡ n ∷ counted_each (broken_from (k + 1) us d) ns
+          → counted_each (broken_from (suc k + 1) us d) (n ∷ counted_at k ns) ≡ n ∷ counted_each (broken_from (k + 1) us d) (counted_at k ns)
+          → counted_each (cond b (broken_from (suc k + 1) us d) ((suc k, u) ∷ broken_from (suc k + 1) us d)) (n ∷ ns)
+          ≡ n ∷ counted_each (cond b (broken_from (k + 1) us d) ((k, u) ∷ broken_from (k + 1) us d)) ns
+      one true e f = e
+      one false e f = f
 
-module _ (d : Data) (rules : List RuleCheck) (k : ℕ) (r : RuleCheck) (ns : List ℕ) where
-  more_rules : k < length rules → r ≡ get_or rules k r → take (k + 1) rules ≡ take k rules ++ r ∷ []
-  more_rules within is = take_more rules k r within ∙ ap (λ z. take k rules ++ z ∷ []) (sym is)
+  each_counted : (us : List RuleCheck) (ns : List ℕ) → counted_each (broken_from 0 us d) ns ≡ one_counted us (Some d) ns
+  each_counted [] ns = sym (none_of_no_rules (Some d) ns)
+  each_counted (u ∷ us) [] = none_without_places (broken_from 0 (u ∷ us) d)
+  each_counted (u ∷ us) (n ∷ ns) = one (truth (formula_on d u)) (each_counted us ns)
+    where
+      one : (b : Bool) → counted_each (broken_from 0 us d) ns ≡ one_counted us (Some d) ns → counted_each (cond b (broken_from 1 us d) ((0, u) ∷ broken_from 1 us d)) (n ∷ ns) ≡ (n + one_if (not b)) ∷ one_counted us (Some d) ns
+      one true e = shifted 0 us n ns ∙ ap (λ z. z ∷ counted_each (broken_from 0 us d) ns) (sym (add-zero n)) ∙ ap (λ z. (n + 0) ∷ z) e
+      one false e = shifted 0 us (n + 1) ns ∙ ap (λ z. (n + 1) ∷ z) e
 
-  -- a rule that is kept is not counted, and one that is broken is
-  pub kept_counted : (cs : List ℕ) → k < length rules → r ≡ get_or rules k r → HasTruth (IsExactly (formula_on d r)) true
-      → cs ≡ one_counted (take k rules) (Some d) ns → cs ≡ one_counted (take (k + 1) rules) (Some d) ns
-  kept_counted cs within is h e =
-      e ∙ sym (kept_rule (take k rules) r (Some d) ns (ap not (h.at (formula_on d r) (record { is = refl }))))
-      ∙ ap (λ rs. one_counted rs (Some d) ns) (sym (more_rules within is))
+-- one rule more is counted
+pub each_more : (bs : List Placed) (b : Placed) (ns : List ℕ) → counted_each (bs ++ b ∷ []) ns ≡ counted_at b.0 (counted_each bs ns)
+each_more [] b ns = refl
+each_more (x ∷ bs) b ns = each_more bs b (counted_at x.0 ns)
 
-  pub broken_counted : (cs : List ℕ) → k < length rules → r ≡ get_or rules k r → HasTruth (IsExactly (formula_on d r)) false
-      → cs ≡ one_counted (take k rules) (Some d) ns → set cs k (get_or cs k 0 + 1) ≡ one_counted (take (k + 1) rules) (Some d) ns
-  broken_counted cs within is h e =
-      ap (λ z. set z k (get_or z k 0 + 1)) e
-      ∙ subst (λ n. set (one_counted (take k rules) (Some d) ns) n (get_or (one_counted (take k rules) (Some d) ns) n 0 + 1) ≡ one_counted (take k rules ++ r ∷ []) (Some d) ns)
-      (length-take-le k rules (omega arith)) (sym (broken_rule (take k rules) r (Some d) ns (ap not (h.at (formula_on d r) (record { is = refl })))))
-      ∙ ap (λ rs. one_counted rs (Some d) ns) (sym (more_rules within is))
+pub rule_counted : (bs : List Broken) (k : ℕ) (b : Broken) (ns old new : List ℕ) → k < length bs → b ≡ get_or bs k b
+    → old ≡ counted_each (map placed (take k bs)) ns → new ≡ counted_at b.place old → new ≡ counted_each (map placed (take (k + 1) bs)) ns
+rule_counted bs k b ns old new within is before e =
+    e ∙ ap (counted_at b.place) before ∙ sym (each_more (map placed (take k bs)) (placed b) ns)
+    ∙ ap (λ z. counted_each z ns) (sym (placed_more bs k b within is))
 
--- behind as many rules as there are counts nothing more is counted
-pub enough_counted : (rules : List RuleCheck) (k : ℕ) (o : Option Data) (ns : List ℕ) → length ns ≤ k
-    → one_counted (take k rules) o ns ≡ one_counted rules o ns
-enough_counted rules k o [] h = refl
-enough_counted [] k o (n ∷ ns) h = ap (λ rs. one_counted rs o (n ∷ ns)) (take_all k [] (omega arith))
-enough_counted (r ∷ rules) zero o (n ∷ ns) h = absurd (omega (arith, h))
-enough_counted (r ∷ rules) (suc k) o (n ∷ ns) h = ap (λ z. (n + one_if (breaks_one r o)) ∷ z) (enough_counted rules k o ns (omega (arith, h)))
+-- at a place that is none nothing is counted
+pub past_counted : (place : ℕ) (ns : List ℕ) → length ns ≤ place → ns ≡ counted_at place ns
+past_counted place ns past = sym (set_past ns place (get_or ns place 0 + 1) past)
 
-pub all_rules_counted : (rules : List RuleCheck) (k : ℕ) (o : Option Data) (ns : List ℕ) → length rules ≤ k
-    → one_counted (take k rules) o ns ≡ one_counted rules o ns
-all_rules_counted rules k o ns h = ap (λ rs. one_counted rs o ns) (take_all k rules h)
+pub or_true : (a : Bool) → (a || true) ≡ true
+or_true true = refl
+or_true false = refl
+
+-- every rule is asked where something is counted for each
+pub counted_judged : (report : Report) (room : Bool) (d : Data) (us : List RuleCheck) (bs : List Placed) (counts : List ℕ) (blocks : List (List ℕ))
+    → bs ≡ shown (asks_all report room counts blocks) (broken_from 0 us d) → counted_each bs counts ≡ one_counted us (Some d) counts
+counted_judged report room d us bs [] blocks e = none_without_places bs ∙ sym (none_of_no_counts us)
+  where
+    none_of_no_counts : (us : List RuleCheck) → one_counted us (Some d) [] ≡ []
+    none_of_no_counts [] = refl
+    none_of_no_counts (u ∷ us) = refl
+counted_judged report room d us bs (n ∷ ns) blocks e =
+    let some : (not (length (n ∷ ns) == 0)) ≡ true = grind (arith, nat_tests) in
+    let whole : asks_all report room (n ∷ ns) blocks ≡ true =
+    ap (λ b. (room && shows_all report) || (b || not (length blocks == 0))) some ∙ or_true (room && shows_all report) in
+    ap (λ z. counted_each z (n ∷ ns)) (e ∙ ap (λ w. shown w (broken_from 0 us d)) whole) ∙ each_counted d us (n ∷ ns)
 
 -- a line without a record counts for no rule
 no_record_counted : (rules : List RuleCheck) (ns : List ℕ) → one_counted rules None ns ≡ ns
@@ -130,14 +151,3 @@ no_record_counted (r ∷ rules) (n ∷ ns) = ap (λ z. z ∷ one_counted rules N
 
 pub unread_counted : (rules : List RuleCheck) (o : Option Data) (ns : List ℕ) → None ≡ o → ns ≡ one_counted rules o ns
 unread_counted rules o ns e = sym (ap (λ z. one_counted rules z ns) (sym e) ∙ no_record_counted rules ns)
-
-pub one_length : (rules : List RuleCheck) (o : Option Data) (ns : List ℕ) → length (one_counted rules o ns) ≡ length ns
-one_length rules o [] = refl
-one_length [] o (n ∷ ns) = refl
-one_length (r ∷ rules) o (n ∷ ns) = ap suc (one_length rules o ns)
-
-pub count_more : (d : Data) (rules : List RuleCheck) (k : ℕ) (r : RuleCheck) (ns old new : List ℕ) (held : Bool)
-    → k < length rules → r ≡ get_or rules k r → old ≡ one_counted (take k rules) (Some d) ns
-    → AddsCount d r k old new held → new ≡ one_counted (take (k + 1) rules) (Some d) ns
-count_more d rules k r ns old new true within is e h = h.0 ∙ kept_counted d rules k r ns old within is h.1 e
-count_more d rules k r ns old new false within is e h = h.0 ∙ broken_counted d rules k r ns old within is h.1 e

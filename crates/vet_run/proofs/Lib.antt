@@ -1,6 +1,7 @@
 mod Counted
 mod Documents
 mod Firsts
+mod Judging
 mod Keeping
 mod Listing
 mod Ranking

@@ -1,10 +1,9 @@
 -- What runs count.
 use Rattle.std.specs.Prelude.{nat_lt, ◌≡◌, ◌||◌, ℕ, ◌+◌, ◌-◌, List, [], ◌∷◌, Bool, true, false, not}
-use Rattle.std.specs.Prelude.{Option, Some, None, if◌then◌else◌, filter, length, slice_index}
-use Rattle.std.specs.Prelude.{slice_set, is_some, option_map}
+use Rattle.std.specs.Prelude.{Option, Some, None, if◌then◌else◌, filter, length, is_some}
+use Rattle.std.specs.Prelude.{option_map}
 use Rattle.serde_json.specs.Data.{Data}
-use Rattle.predicates_core.specs.Formula.{truth, HasTruth}
-use Rattle.predicates_core.specs.Leaves.{IsExactly}
+use Rattle.predicates_core.specs.Formula.{truth}
 use Rattle.vet_checks.specs.declared.rule_check.RuleCheck.{RuleCheck}
 use Rattle.vet_run.specs.InputLines.{record_taken, is_unreadable}
 use Rattle.vet_run.specs.Records.{keeps, formula_on}
@@ -53,13 +52,6 @@ status_of counts =
 abbrev pub breaks_one : RuleCheck → Option Data → Bool
 breaks_one r None = false
 breaks_one r (Some d) = not (truth (formula_on d r))
-
--- one more is counted at the place where the record breaks the rule
-abbrev pub AddsCount : Data → RuleCheck → ℕ → List ℕ → List ℕ → Bool → Type 0
-AddsCount d r index old new true = (new ≡ old) × HasTruth (IsExactly (formula_on d r)) true
-AddsCount d r index old new false =
-    (new ≡ slice_set old index (slice_index old index + 1))
-    × HasTruth (IsExactly (formula_on d r)) false
 
 -- for each rule the number before, and one more where the record breaks it
 abbrev pub one_counted : List RuleCheck → Option Data → List ℕ → List ℕ

@@ -3,6 +3,7 @@ pub mod FirstBlocks
 pub mod GitHub
 pub mod InputLines
 pub mod JUnit
+pub mod Judgements
 pub mod Objects
 pub mod Pieces
 pub mod Places

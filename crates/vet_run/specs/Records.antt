@@ -1,6 +1,6 @@
 -- What is written for one record.
 use Rattle.std.specs.Prelude.{◌≡◌, ◌⊎◌, ℕ, List, [], ◌∷◌, ◌++◌, ◌==◌, Bool, true, false, ◌&&◌}
-use Rattle.std.specs.Prelude.{Option, Some, None, cond, take, length, codes, flat_map}
+use Rattle.std.specs.Prelude.{Option, cond, take, length, codes, flat_map}
 use Rattle.std.specs.List.{AllZip}
 use mathlib.Core.Bool.{beq}
 use Rattle.serde_json.specs.Data.{Data}
@@ -54,8 +54,8 @@ AddsChange d r old new =
     ⊎ ((new ≡ old) × HasTruth (IsExactly (formula_on d r)) true)
 
 -- all of them, or the first
-abbrev pub shown : Bool → List Formula → List Formula
-shown all fs = cond all fs (take 1 fs)
+abbrev pub shown : {X : Type 0} → Bool → List X → List X
+shown all xs = cond all xs (take 1 xs)
 
 -- the line with what heads it, and the lines of each case
 abbrev pub block : Style → List ℕ → List (Tree CaseNode) → List ℕ

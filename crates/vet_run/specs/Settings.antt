@@ -37,3 +37,13 @@ tells (Json all failed) held = not (failed && held)
 tells (GitHub all) held = not held
 tells JUnit held = false
 tells (Lines wanted) held = beq held wanted
+
+-- whether every rule that a record breaks is shown
+abbrev pub shows_all : Report → Bool
+shows_all First = false
+shows_all All = true
+shows_all Change = true
+shows_all (Json all failed) = all
+shows_all (GitHub all) = all
+shows_all JUnit = false
+shows_all (Lines wanted) = false

@@ -1,18 +1,19 @@
 //! What GitHub shows of one record.
 ghost use Rattle.std.specs.Prelude.{◌≡◌, ◌++◌, ℕ, List, IfOk, OnOk, option_map, string_bytes};
-ghost use Rattle.std.specs.Prelude.{flat_map};
+ghost use Rattle.std.specs.Prelude.{flat_map, map};
 ghost use Rattle.std.specs.Io.KnownBytes.{Appends};
 ghost use Rattle.serde_json.specs.View.{view};
 ghost use Rattle.vet_run.specs.GitHub.{file_of, opening};
-ghost use Rattle.vet_run.specs.Records.{IsErrors, error_of, keeps};
+ghost use Rattle.vet_run.specs.Judgements.{IsJudged, placed};
+ghost use Rattle.vet_run.specs.Records.{IsErrors, error_of};
 ghost use Rattle.vet_run.specs.Settings.{id_of, source_of};
 
 use crate::github::{Position, push_error};
 use crate::job::Job;
+use crate::judgement::{Broken, shown};
 use crate::line::Record;
 use crate::place::head;
-use crate::record::{broken, is_none};
-use crate::workspace::Workspace;
+use crate::record::cases_of;
 use predicates_core::reflection::Case;
 use std::alloc::{AllocError, Global};
 use std::io::Write;
@@ -60,24 +61,22 @@ fn push_errors(
     Ok(())
 }
 
-// Writes the lines of the rules that the record breaks, of all or of the first, and says whether it
-// keeps every rule.
-fn push_broken<'r>(
-    job: &Job<'r>,
-    workspace: &mut Workspace<'r>,
+// Writes the lines of the rules that the record breaks, of all or of the first.
+fn push_broken(
+    alloc: Global,
+    job: &Job<'_>,
     all: bool,
+    broken: &[Broken<'_>],
     record: &Record<'_>,
     lines: &mut Vec<u8>,
-) -> Result<bool, AllocError>
-    ensures written { OnOk result ((written : List ℕ)
+) -> Result<(), AllocError>
+    requires { IsJudged all job.now.rules.now (view record.now.value.now) (map placed broken.now) }
+    ensures { OnOk result ((written : List ℕ)
         × IsErrors job.now all record.now.number (view record.now.value.now) written
         × (lines.new.items ≡ lines.old.items ++ written)) }
-    ensures held { IfOk result (λ held.
-        held ≡ keeps job.now.rules.now (view record.now.value.now)) }
 {
     let Record { number, value, .. } = *record;
-    let alloc = workspace.alloc;
-    let cases = broken(job.rules, workspace, all, value)?;
+    let cases = cases_of(alloc, shown(all, broken), value)?;
     let head = head(alloc, job, number, value)?;
     let line = job.format.line_of(number);
     let opening = opening(job, line, head)?;
@@ -88,26 +87,24 @@ fn push_broken<'r>(
         style: &job.settings.style,
     };
     push_errors(alloc, lines, &position, cases.as_slice())?;
-    Ok(is_none(&cases))
+    Ok(())
 }
 
-/// Writes the lines of the rules that the record breaks, of all or of the first, and says whether
-/// it keeps every rule.
-pub(crate) fn tell_errors<'r, W: Write>(
-    job: &Job<'r>,
-    workspace: &mut Workspace<'r>,
+/// Writes the lines of the rules that the record breaks, of all or of the first.
+pub(crate) fn tell_errors<W: Write>(
+    alloc: Global,
+    job: &Job<'_>,
     all: bool,
+    broken: &[Broken<'_>],
     record: &Record<'_>,
     output: &mut W,
-) -> Result<bool, RunFault>
-    ensures written { IfOk result (λ _. (written : List ℕ)
+) -> Result<(), RunFault>
+    requires { IsJudged all job.now.rules.now (view record.now.value.now) (map placed broken.now) }
+    ensures { OnOk result ((written : List ℕ)
         × IsErrors job.now all record.now.number (view record.now.value.now) written
         × Appends (W.contents output.old) (W.contents output.new) written) }
-    ensures held { IfOk result (λ held.
-        held ≡ keeps job.now.rules.now (view record.now.value.now)) }
 {
-    let mut lines = Vec::new(workspace.alloc);
-    let held = push_broken(job, workspace, all, record, &mut lines)?;
-    write_bytes(output, lines.as_slice())?;
-    Ok(held)
+    let mut lines = Vec::new(alloc);
+    push_broken(alloc, job, all, broken, record, &mut lines)?;
+    write_bytes(output, lines.as_slice())
 }

@@ -1,20 +1,21 @@
 //! The block of the first record that breaks each rule.
 ghost use Rattle.std.specs.Prelude.{OnOk, map, string_bytes};
 ghost use Rattle.serde_json.specs.View.{view};
-ghost use Rattle.vet_run.specs.FirstBlocks.{TakesFirst, TakesFirsts};
+ghost use Rattle.vet_run.specs.FirstBlocks.{TakesFirst};
+ghost use Rattle.vet_run.specs.Judgements.{TakesAt, TakesEach, placed};
 
 use crate::job::Job;
+use crate::judgement::Broken;
 use crate::line::Record;
 use crate::record::{add_case, write_block};
-use crate::workspace::Workspace;
-use std::alloc::AllocError;
+use std::alloc::{AllocError, Global};
 use vet_checks::RuleCheck;
 
 // Writes the block of the rule where there is none yet and the record breaks the rule.
-fn take_first<'r>(
-    job: &Job<'r>,
-    workspace: &mut Workspace<'r>,
-    rule: &'r RuleCheck,
+fn take_first(
+    alloc: Global,
+    job: &Job<'_>,
+    rule: &RuleCheck,
     record: &Record<'_>,
     block: &mut String,
 ) -> Result<(), AllocError>
@@ -24,28 +25,46 @@ fn take_first<'r>(
     if !block.is_empty() {
         return Ok(());
     }
-    let mut cases = Vec::new(workspace.alloc);
-    if !add_case(rule, workspace, record.value, &mut cases)? {
+    let mut cases = Vec::new(alloc);
+    if !add_case(alloc, rule, record.value, &mut cases)? {
         return Ok(());
     }
-    write_block(workspace.alloc, job, record, block, cases.as_slice())
+    write_block(alloc, job, record, block, cases.as_slice())
 }
 
-/// Writes the block of each rule that has none yet and that the record breaks.
-pub(crate) fn take_firsts<'r>(
-    job: &Job<'r>,
-    workspace: &mut Workspace<'r>,
+// The same at the rule's place, where there is one.
+fn take_at(
+    alloc: Global,
+    job: &Job<'_>,
+    broken: &Broken<'_>,
     record: &Record<'_>,
     blocks: &mut Vec<String>,
 ) -> Result<(), AllocError>
-    ensures { OnOk result (TakesFirsts job.now record.now.number (view record.now.value.now)
-        (map string_bytes blocks.old.items) (map string_bytes blocks.new.items)) }
+    ensures { OnOk result (TakesAt job.now record.now.number (view record.now.value.now)
+        (placed broken.now) (map string_bytes blocks.old.items)
+        (map string_bytes blocks.new.items)) }
 {
-    for index in 0..blocks.len() {
-        let Some(rule) = job.rules.get(index) else {
-            return Ok(());
-        };
-        take_first(job, workspace, rule, record, &mut blocks[index])?;
+    if broken.place >= blocks.len() {
+        return Ok(());
+    }
+    take_first(alloc, job, broken.rule, record, &mut blocks[broken.place])?;
+    Ok(())
+}
+
+/// Writes the block of each of the rules, which the record breaks, that has none yet.
+pub(crate) fn take_firsts(
+    alloc: Global,
+    job: &Job<'_>,
+    broken: &[Broken<'_>],
+    record: &Record<'_>,
+    blocks: &mut Vec<String>,
+) -> Result<(), AllocError>
+    ensures { OnOk result (TakesEach job.now record.now.number (view record.now.value.now)
+        (map placed broken.now) (map string_bytes blocks.old.items)
+        (map string_bytes blocks.new.items)) }
+{
+    for rule in broken {
+        take_at(alloc, job, rule, record, blocks)?;
     }
     Ok(())
 }

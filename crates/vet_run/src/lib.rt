@@ -10,6 +10,7 @@ mod first_blocks;
 mod github;
 mod input_format;
 mod job;
+mod judgement;
 pub mod laws;
 mod line;
 mod mark;

@@ -1,6 +1,6 @@
 //! A run over the records of an input, one on a line.
 ghost use Rattle.std.specs.Prelude.{◌≡◌, ℕ, List, IfOk, OnOk, OnErr, option_map, string_bytes};
-ghost use Rattle.std.specs.Prelude.{cond, not, [], false, Some, None};
+ghost use Rattle.std.specs.Prelude.{cond, map, not, [], true, false, Some, None};
 ghost use mathlib.Core.Bool.{beq};
 ghost use Rattle.std.specs.Io.KnownBytes.{Appends};
 ghost use Rattle.serde_json.specs.View.{view};
@@ -8,19 +8,21 @@ ghost use Rattle.vet_run.specs.Counting.{CountsOne, has_room, left_after, one_co
 ghost use Rattle.vet_run.specs.FirstBlocks.{TakesFirsts, TakesOn, blocks_of};
 ghost use Rattle.vet_run.specs.InputLines.{ended, is_blank, line_end, record_on};
 ghost use Rattle.vet_run.specs.InputLines.{too_long_text};
+ghost use Rattle.vet_run.specs.Judgements.{IsJudged, placed};
 ghost use Rattle.vet_run.specs.Places.{place_text};
 ghost use Rattle.vet_run.specs.Records.{keeps, IsReport, IsWritten};
 ghost use Rattle.vet_run.specs.Runs.{HasRun, HasStopped, IsLineWritten, IsMessage};
 ghost use Rattle.vet_run.specs.Runs.{IsMessageIf, TakesOne, is_told, message_text};
-ghost use Rattle.vet_run.specs.Settings.{source_of};
+ghost use Rattle.vet_run.specs.Settings.{shows_all, source_of};
 
 use crate::annotations::tell_errors;
 use crate::first_blocks::take_firsts;
 use crate::job::Job;
+use crate::judgement::{Broken, asks_all, count_broken, is_none, judge};
 use crate::line::{Line, Record, is_blank, read_record, too_long};
 use crate::piece::next_piece;
 use crate::place::place;
-use crate::record::{count_broken, keeps, write_broken, write_changes, write_json};
+use crate::record::{write_broken, write_changes, write_json};
 use crate::run_streams::Streams;
 use crate::settings::Report;
 use crate::tally::Tally;
@@ -74,74 +76,74 @@ fn write_line<W: Write>(output: &mut W, line: &[u8]) -> Result<(), RunFault>
     Ok(())
 }
 
-// Writes the line where it is as wanted whether the record on it keeps every rule, and says whether
-// it does.
-fn tell_wanted<'r, W: Write>(
-    job: &Job<'r>,
-    workspace: &mut Workspace<'r>,
+// Writes the line where it is as wanted whether the record on it keeps every rule.
+fn tell_wanted<W: Write>(
     wanted: bool,
+    held: bool,
     record: &Record<'_>,
     output: &mut W,
-) -> Result<bool, RunFault>
-    ensures written { IfOk result (λ _. Appends (W.contents output.old) (W.contents output.new)
-        (cond (beq (keeps job.now.rules.now (view record.now.value.now)) wanted)
-        (ended record.now.bytes.now) [])) }
-    ensures held { IfOk result (λ held.
-        held ≡ keeps job.now.rules.now (view record.now.value.now)) }
+) -> Result<(), RunFault>
+    ensures { OnOk result (Appends (W.contents output.old) (W.contents output.new)
+        (cond (beq held wanted) (ended record.now.bytes.now) [])) }
 {
-    let held = keeps(job.rules, workspace, record.value)?;
     if held == wanted {
         write_line(output, record.bytes)?;
     }
-    Ok(held)
+    Ok(())
 }
 
-// Writes what is told of the record, and says whether it keeps every rule.
-fn tell_record<'r, W: Write>(
-    job: &Job<'r>,
-    workspace: &mut Workspace<'r>,
+// Writes what is told of the record, which breaks these rules.
+fn tell_record<W: Write>(
+    job: &Job<'_>,
+    workspace: &mut Workspace<'_>,
+    broken: &[Broken<'_>],
     record: &Record<'_>,
     output: &mut W,
-) -> Result<bool, RunFault>
-    ensures written { IfOk result (λ _. (written : List ℕ)
+) -> Result<(), RunFault>
+    requires { IsJudged (shows_all job.now.settings.now.report) job.now.rules.now
+        (view record.now.value.now) (map placed broken.now) }
+    ensures { OnOk result ((written : List ℕ)
         × IsReport job.now.settings.now.report job.now record.now.number record.now.bytes.now
         (view record.now.value.now) written
         × Appends (W.contents output.old) (W.contents output.new) written) }
-    ensures held { IfOk result (λ held.
-        held ≡ keeps job.now.rules.now (view record.now.value.now)) }
 {
-    let held = match job.settings.report {
-        Report::First => write_broken(job, workspace, false, record)?,
-        Report::All => write_broken(job, workspace, true, record)?,
-        Report::Change => write_changes(job, workspace, record)?,
-        Report::Json { all, failed } => write_json(job, workspace, all, failed, record)?,
-        Report::GitHub { all } => return tell_errors(job, workspace, all, record, output),
-        Report::JUnit => return Ok(keeps(job.rules, workspace, record.value)?),
-        Report::Lines(wanted) => return tell_wanted(job, workspace, wanted, record, output),
-    };
-    write_bytes(output, workspace.text.as_bytes())?;
-    Ok(held)
+    match job.settings.report {
+        Report::First => write_broken(job, workspace, false, broken, record)?,
+        Report::All => write_broken(job, workspace, true, broken, record)?,
+        Report::Change => write_changes(job, workspace, broken, record)?,
+        Report::Json { all, failed } => write_json(job, workspace, all, failed, broken, record)?,
+        Report::GitHub { all } => {
+            return tell_errors(workspace.alloc, job, all, broken, record, output);
+        }
+        Report::JUnit => return Ok(()),
+        Report::Lines(wanted) => {
+            tell_wanted(wanted, is_none(broken), record, output)?;
+            return Ok(());
+        }
+    }
+    write_bytes(output, workspace.text.as_bytes())
 }
 
 // The same where there is room for more, and nothing otherwise.
-fn tell_in_room<'r, W: Write>(
-    job: &Job<'r>,
-    workspace: &mut Workspace<'r>,
+fn tell_in_room<W: Write>(
+    job: &Job<'_>,
+    workspace: &mut Workspace<'_>,
     room: bool,
+    broken: &[Broken<'_>],
     record: &Record<'_>,
     output: &mut W,
-) -> Result<bool, RunFault>
-    ensures written { IfOk result (λ _. (written : List ℕ)
+) -> Result<(), RunFault>
+    requires { room ≡ true → IsJudged (shows_all job.now.settings.now.report) job.now.rules.now
+        (view record.now.value.now) (map placed broken.now) }
+    ensures { OnOk result ((written : List ℕ)
         × IsWritten job.now room record.now.number record.now.bytes.now
         (view record.now.value.now) written
         × Appends (W.contents output.old) (W.contents output.new) written) }
-    ensures held { IfOk result (λ held.
-        held ≡ keeps job.now.rules.now (view record.now.value.now)) }
 {
     if room {
-        return tell_record(job, workspace, record, output);
+        return tell_record(job, workspace, broken, record, output);
     }
-    Ok(keeps(job.rules, workspace, record.value)?)
+    Ok(())
 }
 
 // Counts which rules the record breaks, writes what is told of it, and says whether it keeps every
@@ -167,10 +169,13 @@ fn take_record<'r, W: Write>(
     ensures left { IfOk result (λ _. tally.new.left
         ≡ left_after (is_told job.now (Some (view record.now.value.now))) tally.old.left) }
 {
-    let room = tally.has_room();
-    count_broken(job.rules, workspace, record.value, &mut tally.broken)?;
-    take_firsts(job, workspace, record, &mut tally.firsts)?;
-    let held = tell_in_room(job, workspace, room, record, output)?;
+    let (alloc, room) = (workspace.alloc, tally.has_room());
+    let whole = asks_all(job.settings.report, room, tally);
+    let broken = judge(job.rules, workspace, whole, record.value)?;
+    count_broken(&broken, &mut tally.broken)?;
+    take_firsts(alloc, job, &broken, record, &mut tally.firsts)?;
+    tell_in_room(job, workspace, room, &broken, record, output)?;
+    let held = is_none(&broken);
     tally.take_room(job.settings.report.tells(held));
     Ok(held)
 }

@@ -1,6 +1,6 @@
 //! What a run writes.
 ghost use Rattle.std.specs.Prelude.{◌≡◌};
-ghost use Rattle.vet_run.specs.Settings.{block_style, tells};
+ghost use Rattle.vet_run.specs.Settings.{block_style, shows_all, tells};
 
 use predicates_style::Style;
 
@@ -37,6 +37,17 @@ impl Report {
             Report::GitHub { .. } => !held,
             Report::JUnit => false,
             Report::Lines(wanted) => held == wanted,
+        }
+    }
+
+    /// Whether every rule that a record breaks is shown.
+    pub(crate) fn shows_all(self) -> bool
+        ensures { result ≡ shows_all self }
+    {
+        match self {
+            Report::All | Report::Change => true,
+            Report::Json { all, .. } | Report::GitHub { all } => all,
+            Report::First | Report::JUnit | Report::Lines(_) => false,
         }
     }
 }

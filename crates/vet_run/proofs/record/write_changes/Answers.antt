@@ -1,7 +1,15 @@
-use Rattle.std.proofs.Common.{◌∙◌}
+use Rattle.std.proofs.Common.{rules, true, subst}
+use Rattle.std.specs.List.{AllZip}
+use Rattle.predicates_core.specs.Change.{ExplainsChange}
 use Rattle.serde_json.specs.View.{view}
-use Rattle.vet_run.proofs.Keeping.{no_changes}
+use Rattle.vet_run.proofs.Judging.{formulas_shown}
 use Rattle.vet_run.proofs.record.write_changes.Goals as goal
 
-pub returns-clause-held : goal.returns-clause-held
-returns-clause-held c = c.is_none.ensures ∙ no_changes (view c.args.record.now.value.now) c.args.job.now.rules.now c.in_ok-cases.cases.items c.in_ok-cases.ensures
+pub returns : goal.returns
+returns c = record {
+  cases = c.in_ok-cases.cases.items;
+  explain = subst (λ fs. AllZip ExplainsChange fs c.in_ok-cases.cases.items)
+      (formulas_shown (view c.args.record.now.value.now) true c.args.job.now.rules.now c.args.broken.now c.requires)
+      c.in_ok-cases.ensures;
+  is = search rules;
+}

@@ -1,7 +1,22 @@
-use Rattle.std.proofs.Common.{◌∙◌}
+use Rattle.std.proofs.Common.{rules, ap, map, subst, ◌∙◌}
+use Rattle.std.specs.List.{AllZip}
+use Rattle.std.specs.Prelude.{string_bytes}
+use Rattle.predicates_core.specs.Shows.{Explains}
 use Rattle.serde_json.specs.View.{view}
-use Rattle.vet_run.proofs.Keeping.{keeps_where_none}
+use Rattle.vet_run.specs.Judgements.{rule_of}
+use Rattle.vet_run.specs.Records.{broken}
+use Rattle.vet_run.proofs.Judging.{formulas_shown}
 use Rattle.vet_run.proofs.record.write_json.Goals as goal
 
-pub returns-clause-held : goal.returns-clause-held
-returns-clause-held c = c.is_none.ensures ∙ keeps_where_none (view c.args.record.now.value.now) c.args.all c.args.job.now.rules.now c.in_ok-cases.cases.items c.in_ok-cases.ensures
+pub returns : goal.returns
+returns c =
+    let d = view c.args.record.now.value.now in
+    record {
+      cases = c.in_ok-cases.cases.items;
+      explain = subst (λ fs. AllZip Explains fs c.in_ok-cases.cases.items)
+          (ap (λ bs. broken (map rule_of bs) d) c.shown.ensures ∙ formulas_shown d c.args.all c.args.job.now.rules.now c.args.broken.now c.requires)
+          c.in_ok-cases.ensures;
+      name = string_bytes c.in_ok-name.name;
+      named = c.in_ok-name.ensures;
+      is = search rules;
+    }
