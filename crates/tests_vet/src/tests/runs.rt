@@ -84,17 +84,14 @@ fn writes(rt: &impl Abort, alloc: Global, expected: Expected<'_>) -> bool {
     }
 }
 
-// Whether a run over the one record writes the block, which is empty where the record keeps the
-// rules.
-fn writes_block<'a>(
+// Whether a run over the one record does so, and so many records fail.
+fn writes_of_one<'a>(
     rt: &impl Abort,
     alloc: Global,
     report: Report,
     rules: &'a str,
-    records: &'a [u8],
-    output: &'a [u8],
+    (records, output, failed): (&'a [u8], &'a [u8], u64),
 ) -> bool {
-    let failed = if output.is_empty() { 0 } else { 1 };
     let expected = Expected {
         report,
         id: None,
@@ -106,19 +103,33 @@ fn writes_block<'a>(
     writes(rt, alloc, expected)
 }
 
+// Whether a run over the one record writes the block, which is empty where the record keeps the
+// rules.
+fn writes_block<'a>(
+    rt: &impl Abort,
+    alloc: Global,
+    report: Report,
+    rules: &'a str,
+    records: &'a [u8],
+    output: &'a [u8],
+) -> bool {
+    let failed = if output.is_empty() { 0 } else { 1 };
+    writes_of_one(rt, alloc, report, rules, (records, output, failed))
+}
+
 // Whether a run by the rule passes the value, a line, where it holds, and not where it does not.
 fn passes(rt: &impl Abort, alloc: Global, rule: &str, value: &str, holds: bool) -> bool {
     let line = format!(in alloc; "{value}\n").expect(rt, "memory");
-    let (kept, failed) = if holds { (line.as_str(), 0) } else { ("", 1) };
-    let expected = Expected {
-        report: Report::Lines(true),
-        id: None,
-        rules: rule,
-        records: line.as_bytes(),
-        output: kept.as_bytes(),
-        counts: (1, failed, 0),
-    };
-    writes(rt, alloc, expected)
+    let records = line.as_bytes();
+    let (written, failed) = if holds { (records.len(), 0) } else { (0, 1) };
+    let output = &records[..written];
+    writes_of_one(
+        rt,
+        alloc,
+        Report::Lines(true),
+        rule,
+        (records, output, failed),
+    )
 }
 
 // The block of which a row has these lines.
