@@ -18,7 +18,7 @@ def pieces(path, size):
 
 
 def check(piece):
-    """What `vet` writes and tells of a piece, and its status; an error, to be tried again, if killed."""
+    """What `vet` writes and tells of a piece, its status; an error, tried again, if killed."""
     path, begin, end = piece
     with open(path, 'rb') as file:
         file.seek(begin)

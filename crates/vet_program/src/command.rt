@@ -88,28 +88,21 @@ fn summary<'a>(alloc: Global) -> Arg<'a> {
         .value_parser(SUMMARY_FORMS)
 }
 
-// What a run over records may be told.
-const OF_RUNS: &[&str] = &[
-    "failed",
-    "passed",
-    "all",
-    "change",
-    "json",
-    "format",
-    "id",
-    "input-format",
-    "max",
-    "parts",
-    "color",
-    "progress",
-    "flush",
-];
+// One that can't stand with what a run over records is told.
+fn without_run<'a>(arg: Arg<'a>) -> Result<Arg<'a>, AllocError> {
+    let arg = unexplained(arg)?.conflicts_with("failed")?;
+    let arg = arg.conflicts_with("passed")?.conflicts_with("change")?;
+    let arg = arg.conflicts_with("format")?.conflicts_with("id")?;
+    let arg = arg.conflicts_with("input-format")?.conflicts_with("max")?;
+    let arg = arg.conflicts_with("parts")?.conflicts_with("color")?;
+    arg.conflicts_with("progress")?.conflicts_with("flush")
+}
 
 fn merge<'a>(alloc: Global) -> Result<Arg<'a>, AllocError> {
     let help = "Add up the objects that `--summary=json` wrote of\n\
                 runs by the same rules: RULES and FILES are the\n\
                 files of these objects";
-    flag(alloc, "merge", help).conflicts_with_all(OF_RUNS)
+    without_run(flag(alloc, "merge", help))
 }
 
 fn parts<'a>(alloc: Global) -> Arg<'a> {

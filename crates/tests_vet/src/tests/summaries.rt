@@ -258,7 +258,7 @@ fn sums_that_nothing_reads(rt: HostRuntime) {
 
 // A text, and whether it is a summary: its members, one that lacks, is of another kind, negative, a
 // fraction or too great, rules that are none, and what is no object.
-const TEXTS: [(&str, bool); 12] = [
+const TEXTS: [(&str, bool); 13] = [
     (
         "{\"records\":0,\"failed\":0,\"unreadable\":0,\"rules\":[]}",
         true,
@@ -266,6 +266,10 @@ const TEXTS: [(&str, bool); 12] = [
     (
         "{\"unreadable\":1,\"a\":{},\"rules\":[{\"broken\":0,\"rule\":\"\"}],\"failed\":0,\
          \"records\":18446744073709551615}",
+        true,
+    ),
+    (
+        "{\"records\":4,\"failed\":1,\"unreadable\":0,\"rules\":[{\"rule\":\"adult\",\"broken\":1}]}",
         true,
     ),
     ("{\"records\":0,\"failed\":0,\"unreadable\":0}", false),
