@@ -221,12 +221,16 @@ pub fn count_asked_calls<R: AllocGlobal + Print, P: PredicateChange<Item>, Item>
     let [item, plain] = items;
     for ((asking, called), times) in ASKING.into_iter().zip(times) {
         let name = format!(in rt.alloc(); "{asking} by {name}")?;
-        let question = |item| Question {
+        let question = Question {
             predicate,
             item,
             called,
         };
-        count_asked(rt, name.as_str(), &question(item), &question(plain), times)?;
+        let plain = Question {
+            item: plain,
+            ..question
+        };
+        count_asked(rt, name.as_str(), &question, &plain, times)?;
     }
     Ok(())
 }

@@ -66,7 +66,7 @@ fn leaves_of_words(rt: HostRuntime) {
 }
 
 // What a tally keeps of each rule.
-#[derive(Clone, Copy)]
+#[derive(Clone, Copy, Debug)]
 enum Kept {
     Nothing,
     Counts,
@@ -74,7 +74,7 @@ enum Kept {
 }
 
 // A run of the rules over a record that keeps the first of three and breaks the others.
-#[derive(Drop)]
+#[derive(Clone, Copy)]
 struct Running<'a> {
     rules: &'a [RuleCheck],
     settings: &'a Settings,
@@ -124,88 +124,67 @@ fn rules_of(rt: &impl Abort, alloc: Global, counted: Option<usize>) -> Vec<RuleC
         .expect(rt, "rules")
 }
 
+const FIRST_OBJECT: Report = Report::Json {
+    all: false,
+    failed: false,
+};
+
+const ALL_OBJECTS: Report = Report::Json {
+    all: true,
+    failed: true,
+};
+
+const FIRST_ERROR: Report = Report::GitHub { all: false };
+
+const ALL_ERRORS: Report = Report::GitHub { all: true };
+
 // A report, what is kept of each rule, how much may be written, and how often each rule is asked:
-// once for the verdicts that the run needs, and once more for its case or its change.
-const RUNS: [(&str, Report, Kept, Option<u64>, [u16; 3]); 13] = [
-    ("first", Report::First, Kept::Nothing, None, [1, 2, 0]),
-    (
-        "first, counted",
-        Report::First,
-        Kept::Counts,
-        None,
-        [2, 3, 1],
-    ),
-    (
-        "first, no room",
-        Report::First,
-        Kept::Nothing,
-        Some(0),
-        [1, 1, 0],
-    ),
-    ("all", Report::All, Kept::Nothing, None, [1, 2, 2]),
-    ("all, counted", Report::All, Kept::Counts, None, [2, 3, 3]),
-    ("change", Report::Change, Kept::Nothing, None, [1, 2, 2]),
-    (
-        "an object of the first",
-        Report::Json {
-            all: false,
-            failed: false,
-        },
-        Kept::Nothing,
-        None,
-        [1, 2, 0],
-    ),
-    (
-        "an object of all",
-        Report::Json {
-            all: true,
-            failed: true,
-        },
-        Kept::Nothing,
-        None,
-        [1, 2, 2],
-    ),
-    (
-        "a line of the first",
-        Report::GitHub { all: false },
-        Kept::Nothing,
-        None,
-        [1, 2, 0],
-    ),
-    (
-        "lines of all",
-        Report::GitHub { all: true },
-        Kept::Nothing,
-        None,
-        [1, 2, 2],
-    ),
-    ("kept", Report::Lines(true), Kept::Nothing, None, [1, 1, 0]),
-    (
-        "broken",
-        Report::Lines(false),
-        Kept::Nothing,
-        None,
-        [1, 1, 0],
-    ),
-    ("a document", Report::JUnit, Kept::Blocks, None, [3, 4, 3]),
+// for its verdict, and once more for its case or its change.
+const RUNS: [(Report, Kept, Option<u64>, [u16; 3]); 13] = [
+    (Report::First, Kept::Nothing, None, [1, 2, 0]),
+    (Report::First, Kept::Nothing, Some(0), [1, 1, 0]),
+    (Report::First, Kept::Counts, None, [2, 3, 1]),
+    (Report::All, Kept::Nothing, None, [1, 2, 2]),
+    (Report::All, Kept::Counts, None, [2, 3, 3]),
+    (Report::Change, Kept::Nothing, None, [1, 2, 2]),
+    (FIRST_OBJECT, Kept::Nothing, None, [1, 2, 0]),
+    (ALL_OBJECTS, Kept::Nothing, None, [1, 2, 2]),
+    (FIRST_ERROR, Kept::Nothing, None, [1, 2, 0]),
+    (ALL_ERRORS, Kept::Nothing, None, [1, 2, 2]),
+    (Report::Lines(true), Kept::Nothing, None, [1, 1, 0]),
+    (Report::Lines(false), Kept::Nothing, None, [1, 1, 0]),
+    (Report::JUnit, Kept::Blocks, None, [3, 4, 3]),
 ];
 
-#[test]
-fn rules_of_runs(rt: HostRuntime) {
+// A run asks each rule so often.
+fn count_rules<R: Abort + AllocGlobal + Print>(
+    rt: &R,
+    report: Report,
+    kept: Kept,
+    most: Option<u64>,
+    times: [u16; 3],
+) {
     let alloc = rt.alloc();
-    let plain = rules_of(&rt, alloc, None);
-    for (name, report, kept, most, times) in RUNS {
-        let settings = Settings { report, id: None };
-        let of = |rules| Running {
+    let settings = Settings { report, id: None };
+    let plain = rules_of(rt, alloc, None);
+    for (place, times) in times.into_iter().enumerate() {
+        let counted = rules_of(rt, alloc, Some(place));
+        let name = format!(in alloc; "{report:?}, {kept:?}, rule {place}").expect(rt, "memory");
+        let (rules, settings) = (counted.as_slice(), &settings);
+        let run = Running {
             rules,
-            settings: &settings,
+            settings,
             kept,
             most,
         };
-        for (place, times) in times.into_iter().enumerate() {
-            let rules = rules_of(&rt, alloc, Some(place));
-            let name = format!(in alloc; "{name}: rule {place}").expect(&rt, "memory");
-            count_asked(&rt, name.as_str(), &of(&rules), &of(&plain), times).expect(&rt, "memory");
-        }
+        let rules = plain.as_slice();
+        count_asked(rt, name.as_str(), &run, &Running { rules, ..run }, times).expect(rt, "memory");
+    }
+}
+
+#[test]
+fn rules_of_runs(rt: HostRuntime) {
+    for (report, kept, most, times) in RUNS {
+        count_rules(&rt, report, kept, most, times);
     }
 }
