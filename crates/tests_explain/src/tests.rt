@@ -28,6 +28,16 @@ fn texts_of(rt: &impl Host, tokens: &[&str]) -> Vec<String> {
     words
 }
 
+// The tokens, each so many times in its turn, behind `empty`.
+fn nested(rt: &impl Host, tokens: &[&str], times: usize) -> Vec<String> {
+    let mut words = texts_of(rt, &["empty"]);
+    for _ in 0..times {
+        let mut level = texts_of(rt, tokens);
+        words.append(&mut level).expect(rt, "memory");
+    }
+    words
+}
+
 // The one check that the tokens leave.
 fn read_check(rt: &impl Host, tokens: &[&str]) -> TextCheck {
     TextCheck::from_words(rt.alloc(), &texts_of(rt, tokens)).expect(rt, "memory")

@@ -1,5 +1,5 @@
 //! Cases rendered in each style, against lines written by hand.
-use crate::tests::made::Host;
+use crate::tests::made::{Host, owned};
 use predicates::reflection::{Case, Product, render};
 use predicates_style::{Style, render_styled};
 
@@ -25,11 +25,7 @@ const ONE_CHILD_EACH: &str = "all = true
 ";
 
 fn node(rt: &impl Host, text: &str, outcome: bool) -> Case {
-    Case::new(
-        rt.alloc(),
-        Some(String::from_str(rt.alloc(), text).expect(rt, "memory")),
-        outcome,
-    )
+    Case::new(rt.alloc(), Some(owned(rt, text)), outcome)
 }
 
 // A node with so many children, all leaves.
@@ -58,10 +54,9 @@ fn nested(rt: &impl Host) -> Case {
 }
 
 fn with_value(rt: &impl Host, name: &'static str, value: &str) -> Case {
-    let value = String::from_str(rt.alloc(), value).expect(rt, "memory");
-    node(rt, "var == \"a\nb\"", false)
-        .add_product(Product::new(name, value))
-        .expect(rt, "memory")
+    let product = Product::new(name, owned(rt, value));
+    let case = node(rt, "var == \"a\nb\"", false).add_product(product);
+    case.expect(rt, "memory")
 }
 
 // Whether the case is rendered so in the style.
@@ -136,19 +131,19 @@ const CHARACTERS: [(&str, &str); 19] = [
     ("\u{fefe}\u{feff}\u{ff00}", "\u{fefe}\\u{feff}\u{ff00}"),
 ];
 
-#[test]
-fn characters_that_turn_or_hide_escaped(rt: HostRuntime) {
-    let alloc = rt.alloc();
+fn is_escaped(rt: &impl Host, text: &str, written: &str) -> bool {
     let style = Style {
         escapes: true,
         ..Style::new()
     };
+    let lines = format!(in rt.alloc(); "{written} = true\n").expect(rt, "memory");
+    renders(rt, style, node(rt, text, true), lines.as_str())
+}
+
+#[test]
+fn characters_that_turn_or_hide_escaped(rt: HostRuntime) {
     for (text, written) in CHARACTERS {
-        let lines = format!(in alloc; "{written} = true\n").expect(&rt, "memory");
-        assert!(rt;
-            renders(&rt, style, node(&rt, text, true), lines.as_str()),
-            "{written}"
-        );
+        assert!(rt; is_escaped(&rt, text, written), "{written}");
     }
 }
 
@@ -175,9 +170,12 @@ fn results_in_colours(rt: HostRuntime) {
     assert!(rt; renders(&rt, style, node(&rt, "a", false), red));
 }
 
+fn is_rendered_plainly(rt: &impl Host) -> bool {
+    let lines = render(rt.alloc(), &nested(rt)).expect(rt, "memory");
+    renders(rt, Style::default(), nested(rt), lines.as_str())
+}
+
 #[test]
 fn as_rendered_without_a_style(rt: HostRuntime) {
-    let alloc = rt.alloc();
-    let lines = render(alloc, &nested(&rt)).expect(&rt, "memory");
-    assert!(rt; renders(&rt, Style::default(), nested(&rt), lines.as_str()));
+    assert!(rt; is_rendered_plainly(&rt));
 }

@@ -1,6 +1,6 @@
 //! How often the leaves of a predicate are asked by filters, runs and blocks, which no contract
 //! says, and that no check of words asks a part at each level twice.
-use super::{Host, texts_of};
+use super::{Host, nested};
 use explain_run::{TextCheck, explain_one, filter_lines, filter_with_reasons, run_text};
 use predicates::constant::{BooleanPredicate, always, never};
 use predicates::prelude::*;
@@ -102,16 +102,6 @@ fn a_block_asks_each_leaf_twice(rt: HostRuntime) {
 // How many levels a check has. Where a part were asked twice at each, the leaf below would be asked
 // 2^100 times, and no call would end.
 const LEVELS: usize = 100;
-
-// The tokens, each so many times in its turn, behind `empty`.
-fn nested(rt: &impl Host, tokens: &[&str], times: usize) -> Vec<String> {
-    let mut words = texts_of(rt, &["empty"]);
-    for _ in 0..times {
-        let mut level = texts_of(rt, tokens);
-        words.append(&mut level).expect(rt, "memory");
-    }
-    words
-}
 
 // `empty` and the token so many times, the second behind all of the first.
 fn nested_right(rt: &impl Host, token: &str, times: usize) -> Vec<String> {

@@ -1,5 +1,5 @@
 //! Checks of words: policies that are read and asked, each error's text, and the limit of depth.
-use super::{Host, is_shown, read_check, texts_of};
+use super::{Host, is_shown, nested, read_check, texts_of};
 use explain_run::{MAX_DEPTH, TextCheck, WordsError};
 use explain_words::take_word;
 use predicates::Predicate;
@@ -67,43 +67,27 @@ fn words_are_taken_one_by_one(rt: HostRuntime) {
     assert!(rt; checks.len() == 1);
 }
 
-// `empty`, and then the token so often, each time over a leaf of its own where it takes two checks.
-fn nested(rt: &impl Host, token: &str, levels: usize) -> Vec<String> {
-    let mut words = texts_of(rt, &["empty"]);
-    for _ in 0..levels {
-        if token == "or" {
-            words
-                .push(String::from_str(rt.alloc(), "empty").expect(rt, "memory"))
-                .expect(rt, "memory");
-        }
-        words
-            .push(String::from_str(rt.alloc(), token).expect(rt, "memory"))
-            .expect(rt, "memory");
-    }
-    words
-}
-
 // Whether the deepest check that is read holds of no characters.
-fn deepest_holds(rt: &impl Host, token: &str) -> bool {
+fn deepest_holds(rt: &impl Host, tokens: &[&str]) -> bool {
     let alloc = rt.alloc();
-    let words = nested(rt, token, MAX_DEPTH);
+    let words = nested(rt, tokens, MAX_DEPTH);
     let check = TextCheck::from_words(alloc, &words).expect(rt, "memory");
     check.eval(alloc, &String::new(alloc)).expect(rt, "memory")
 }
 
-const TOO_DEEP: [(&str, &str); 2] = [
-    ("not", "word 2002, \"not\": check nested too deep"),
-    ("or", "word 4003, \"or\": check nested too deep"),
+const TOO_DEEP: [(&[&str], &str); 2] = [
+    (&["not"], "word 2002, \"not\": check nested too deep"),
+    (&["empty", "or"], "word 4003, \"or\": check nested too deep"),
 ];
 
 #[test]
 fn limit_of_depth(rt: HostRuntime) {
-    for (token, expected) in TOO_DEEP {
-        let is_read = is_told(&rt, nested(&rt, token, MAX_DEPTH), "read");
-        assert!(rt; is_read, "{token}");
-        assert!(rt; deepest_holds(&rt, token), "{token}");
-        let is_refused = is_told(&rt, nested(&rt, token, MAX_DEPTH + 5), expected);
-        assert!(rt; is_refused, "{token}");
+    for (tokens, expected) in TOO_DEEP {
+        let is_read = is_told(&rt, nested(&rt, tokens, MAX_DEPTH), "read");
+        assert!(rt; is_read, "{expected}");
+        assert!(rt; deepest_holds(&rt, tokens), "{expected}");
+        let is_refused = is_told(&rt, nested(&rt, tokens, MAX_DEPTH + 5), expected);
+        assert!(rt; is_refused, "{expected}");
     }
 }
 
