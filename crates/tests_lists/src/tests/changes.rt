@@ -4,31 +4,16 @@ use crate::guests::{Guest, name_of, seat_of};
 use crate::tests::made::{Host, in_box, owned, vec_of};
 use predicates::ord::OrdPredicate;
 use predicates::prelude::*;
-use predicates::str::RegexPredicate;
 use tests_support::{ReferenceFormula, counted, find_changes, is_explained, named_leaf};
-
-// Whether the item's reason and what would turn it keep the leaves that the search finds.
-fn turns<P: PredicateChange<Item> + Drop, Item: Drop>(
-    rt: &impl Host,
-    predicate: P,
-    item: Item,
-    formula: ReferenceFormula,
-) -> bool
-    requires { P.lawful predicate }
-{
-    is_explained(rt.alloc(), &predicate, &item, &formula).expect(rt, "memory")
-}
-
-fn named(rt: &impl Host, truth: bool) -> ReferenceFormula {
-    named_leaf(rt.alloc(), truth).expect(rt, "memory")
-}
 
 // The formula of the policy on guests, by the truths of its leaves.
 fn guest_formula(rt: &impl Host, truths: [bool; 3]) -> ReferenceFormula {
     let [adult, known, seated] = truths;
-    let (left, right) = (in_box(rt, named(rt, adult)), in_box(rt, named(rt, known)));
+    let left = in_box(rt, named_leaf(rt.alloc(), adult).expect(rt, "memory"));
+    let right = in_box(rt, named_leaf(rt.alloc(), known).expect(rt, "memory"));
     let both = in_box(rt, ReferenceFormula::And(left, right));
-    ReferenceFormula::And(both, in_box(rt, named(rt, seated)))
+    let seated = in_box(rt, named_leaf(rt.alloc(), seated).expect(rt, "memory"));
+    ReferenceFormula::And(both, seated)
 }
 
 // A guest's name, age and seat, and the truths of the policy's leaves.
@@ -49,7 +34,7 @@ fn turns_guest(rt: &impl Host, row: GuestRow) -> bool {
     let known = predicate::str::starts_with(owned(rt, "A")).of_ref("name", name_of);
     let seated = predicate::le(40u32).of_some_ref("seat", seat_of);
     let policy = adult.and(known).and(seated);
-    turns(rt, policy, guest, guest_formula(rt, truths))
+    is_explained(rt.alloc(), &policy, &guest, &guest_formula(rt, truths)).expect(rt, "memory")
 }
 
 #[test]
@@ -60,30 +45,25 @@ fn parts(rt: HostRuntime) {
 }
 
 fn turns_length(rt: &impl Host, list: &[u32], truth: bool) -> bool {
-    turns(
-        rt,
-        predicate::le(2usize).of_len(),
-        vec_of(rt, list),
-        named(rt, truth),
+    let list = vec_of(rt, list);
+    let short = predicate::le(2usize).of_len();
+    is_explained(
+        rt.alloc(),
+        &short,
+        &list,
+        &named_leaf(rt.alloc(), truth).expect(rt, "memory"),
     )
+    .expect(rt, "memory")
 }
 
 fn turns_present(rt: &impl Host, item: Option<u32>, truth: bool) -> bool {
-    turns(
-        rt,
-        predicate::ge(18u32).of_some(),
-        item,
-        ReferenceFormula::Leaf(truth),
-    )
+    let adult = predicate::ge(18u32).of_some();
+    is_explained(rt.alloc(), &adult, &item, &ReferenceFormula::Leaf(truth)).expect(rt, "memory")
 }
 
 fn turns_found(rt: &impl Host, item: Result<u16, u8>, truth: bool) -> bool {
-    turns(
-        rt,
-        predicate::eq(200u16).of_ok(),
-        item,
-        ReferenceFormula::Leaf(truth),
-    )
+    let found = predicate::eq(200u16).of_ok();
+    is_explained(rt.alloc(), &found, &item, &ReferenceFormula::Leaf(truth)).expect(rt, "memory")
 }
 
 #[test]
@@ -98,19 +78,23 @@ fn lengths_and_absent_values(rt: HostRuntime) {
 
 // "At least this number", for three numbers.
 fn rules(rt: &impl Host) -> Vec<OrdPredicate<u32>> {
-    let (one, five, nine) = (predicate::ge(1u32), predicate::ge(5), predicate::ge(9));
-    vec_of(rt, &[one, five, nine])
+    vec![in rt.alloc();
+        predicate::ge(1u32),
+        predicate::ge(5u32),
+        predicate::ge(9u32),
+    ]
+    .expect(rt, "memory")
 }
 
 // The leaves of these rules.
-fn leaves(rt: &impl Host, truths: &[bool]) -> Vec<ReferenceFormula> {
-    let mut leaves = Vec::new(rt.alloc());
-    for truth in truths {
-        leaves
-            .push(ReferenceFormula::Leaf(*truth))
-            .expect(rt, "memory");
-    }
-    leaves
+fn leaves(rt: &impl Host, truths: [bool; 3]) -> Vec<ReferenceFormula> {
+    let [first, second, third] = truths;
+    vec![in rt.alloc();
+        ReferenceFormula::Leaf(first),
+        ReferenceFormula::Leaf(second),
+        ReferenceFormula::Leaf(third),
+    ]
+    .expect(rt, "memory")
 }
 
 // Whether what would turn the verdict keeps the leaves that the search finds.
@@ -130,8 +114,8 @@ fn is_turned<P: PredicateChange<Item>, Item>(
 fn turns_rules(rt: &impl Host, number: u32, truths: [bool; 3]) -> bool {
     let all = predicate::all_of(rules(rt));
     let any = predicate::any_of(rules(rt));
-    let three = counted(rt.alloc(), 3, leaves(rt, &truths)).expect(rt, "memory");
-    let one = counted(rt.alloc(), 1, leaves(rt, &truths)).expect(rt, "memory");
+    let three = counted(rt.alloc(), 3, leaves(rt, truths)).expect(rt, "memory");
+    let one = counted(rt.alloc(), 1, leaves(rt, truths)).expect(rt, "memory");
     is_turned(rt, &all, &number, &three) && is_turned(rt, &any, &number, &one)
 }
 
@@ -153,20 +137,26 @@ fn guests(rt: &impl Host, adults: &[bool]) -> Vec<u32> {
 
 // "At least so many of them are adults".
 fn adults_formula(rt: &impl Host, least: usize, adults: &[bool]) -> ReferenceFormula {
-    counted(rt.alloc(), least, leaves(rt, adults)).expect(rt, "memory")
+    let mut members = Vec::new(rt.alloc());
+    for adult in adults {
+        members
+            .push(ReferenceFormula::Leaf(*adult))
+            .expect(rt, "memory");
+    }
+    counted(rt.alloc(), least, members).expect(rt, "memory")
 }
 
 fn has_at_least(rt: &impl Host, number: usize, adults: &[bool]) -> bool {
     let enough = predicate::ge(18u32).of_at_least(number);
     let formula = adults_formula(rt, number, adults);
-    turns(rt, enough, guests(rt, adults), formula)
+    is_explained(rt.alloc(), &enough, &guests(rt, adults), &formula).expect(rt, "memory")
 }
 
 fn has_at_most(rt: &impl Host, number: usize, adults: &[bool]) -> bool {
     let few = predicate::ge(18u32).of_at_most(number);
     let more = in_box(rt, adults_formula(rt, number.saturating_add(1), adults));
     let formula = ReferenceFormula::Not(more);
-    turns(rt, few, guests(rt, adults), formula)
+    is_explained(rt.alloc(), &few, &guests(rt, adults), &formula).expect(rt, "memory")
 }
 
 fn has_exactly(rt: &impl Host, number: usize, adults: &[bool]) -> bool {
@@ -175,7 +165,7 @@ fn has_exactly(rt: &impl Host, number: usize, adults: &[bool]) -> bool {
     let more = in_box(rt, adults_formula(rt, number.saturating_add(1), adults));
     let most = in_box(rt, ReferenceFormula::Not(more));
     let formula = ReferenceFormula::And(least, most);
-    turns(rt, just, guests(rt, adults), formula)
+    is_explained(rt.alloc(), &just, &guests(rt, adults), &formula).expect(rt, "memory")
 }
 
 #[test]
@@ -198,7 +188,13 @@ fn turns_box(rt: &impl Host, item: &str, is_empty: bool) -> bool {
     let some = predicate::str::is_empty().not();
     let boxed = BoxPredicate::new(rt.alloc(), in_box(rt, some)).expect(rt, "memory");
     let leaf = in_box(rt, ReferenceFormula::Leaf(is_empty));
-    turns(rt, boxed, owned(rt, item), ReferenceFormula::Not(leaf))
+    is_explained(
+        rt.alloc(),
+        &boxed,
+        &owned(rt, item),
+        &ReferenceFormula::Not(leaf),
+    )
+    .expect(rt, "memory")
 }
 
 #[test]
@@ -207,22 +203,28 @@ fn boxes(rt: HostRuntime) {
     assert!(rt; turns_box(&rt, "a", false));
 }
 
-// A pattern of words that begin with a T.
-fn word(rt: &impl Host) -> RegexPredicate {
-    predicate::str::is_match(rt.alloc(), owned(rt, "T[a-z]*")).expect(rt, "memory")
-}
-
 fn turns_pattern(rt: &impl Host, item: &str, truth: bool) -> bool {
-    turns(rt, word(rt), owned(rt, item), ReferenceFormula::Leaf(truth))
+    let word = predicate::str::is_match(rt.alloc(), owned(rt, "T[a-z]*")).expect(rt, "memory");
+    is_explained(
+        rt.alloc(),
+        &word,
+        &owned(rt, item),
+        &ReferenceFormula::Leaf(truth),
+    )
+    .expect(rt, "memory")
 }
 
 fn turns_count(rt: &impl Host, item: &str, truth: bool) -> bool {
-    turns(
-        rt,
-        word(rt).count(2),
-        owned(rt, item),
-        ReferenceFormula::Leaf(truth),
+    let two = predicate::str::is_match(rt.alloc(), owned(rt, "T[a-z]*"))
+        .expect(rt, "memory")
+        .count(2);
+    is_explained(
+        rt.alloc(),
+        &two,
+        &owned(rt, item),
+        &ReferenceFormula::Leaf(truth),
     )
+    .expect(rt, "memory")
 }
 
 #[test]
