@@ -261,18 +261,16 @@ fn failures_print_themselves(rt: HostRuntime) {
     assert!(rt; two_print_themselves(&rt));
 }
 
-// What one, two and three tickets cost at most.
-const MOST: [(&str, u32); 3] = [
-    ("one ticket", 9),
-    ("two tickets", 18),
-    ("three tickets", 27),
-];
-
-// How requiring it ends where they cost so much.
+// How requiring ends that one, two and three tickets cost so much, at most 9 each.
 fn are_required(rt: &impl Host, prices: [u32; 3], expected: &str) -> bool {
     let alloc = rt.alloc();
+    let [one, two, three] = prices;
     let mut expectations = Vec::new(alloc);
-    for ((label, most), price) in MOST.into_iter().zip(prices) {
+    for (label, most, price) in [
+        ("one ticket", 9, one),
+        ("two tickets", 18, two),
+        ("three tickets", 27, three),
+    ] {
         let cheap = expect(alloc, label, price, predicate::le(most)).expect(rt, "memory");
         expectations.push(cheap).expect(rt, "memory");
     }
