@@ -266,14 +266,15 @@ fn are_required(rt: &impl Host, prices: [u32; 3], expected: &str) -> bool {
     let alloc = rt.alloc();
     let [one, two, three] = prices;
     let mut expectations = Vec::new(alloc);
-    for (label, most, price) in [
-        ("one ticket", 9, one),
-        ("two tickets", 18, two),
-        ("three tickets", 27, three),
-    ] {
-        let cheap = expect(alloc, label, price, predicate::le(most)).expect(rt, "memory");
-        expectations.push(cheap).expect(rt, "memory");
-    }
+    expectations
+        .push(expect(alloc, "one ticket", one, predicate::le(9u32)).expect(rt, "memory"))
+        .expect(rt, "memory");
+    expectations
+        .push(expect(alloc, "two tickets", two, predicate::le(18)).expect(rt, "memory"))
+        .expect(rt, "memory");
+    expectations
+        .push(expect(alloc, "three tickets", three, predicate::le(27)).expect(rt, "memory"))
+        .expect(rt, "memory");
     ends_in(rt, require_all(alloc, expectations.as_slice()), expected)
 }
 
