@@ -1,4 +1,5 @@
 mod dynamic;
+mod evaluations;
 mod functions_and_boxes;
 mod json;
 mod laws;

@@ -7,14 +7,16 @@ mod answer;
 mod call;
 mod predicate_calls;
 mod refusals;
+mod requests;
 mod without;
 mod written_row;
 mod wrong;
 
 pub use answer::Answer;
 pub use call::{Call, Memory, Rendered};
-pub use predicate_calls::{Row, leaf, over, sweep_calls};
+pub use predicate_calls::{Row, count_asked_calls, leaf, over, sweep_calls};
 pub use refusals::sweep;
+pub use requests::count_asked;
 pub use without::{Without, refusing};
 pub use written_row::WrittenRow;
 pub use wrong::Wrong;

@@ -2,6 +2,7 @@
 use crate::answer::Answer;
 use crate::call::{Call, Memory};
 use crate::refusals::sweep;
+use crate::requests::count_asked;
 use crate::wrong::Wrong;
 use predicates_core::PredicateChange;
 use predicates_core::reflection::render;
@@ -12,8 +13,8 @@ use std::alloc::{AllocError, Global};
 enum Called {
     Verdict,
     Case(bool),
-    Explained,
-    Change(bool),
+    Explained(Option<bool>),
+    Change(Option<bool>),
     Parameters,
     Children,
 }
@@ -43,12 +44,12 @@ impl<P: PredicateChange<Item>, Item> Call for Question<'_, P, Item> {
             Called::Case(expected) => {
                 Ok(Answer::Case(self.predicate.find_case(alloc, expected, self.item)?))
             }
-            Called::Explained => {
-                let found = self.predicate.explain(alloc, None, self.item)?;
+            Called::Explained(wanted) => {
+                let found = self.predicate.explain(alloc, wanted, self.item)?;
                 Ok(Answer::Case(found))
             }
             Called::Change(wanted) => {
-                let change = self.predicate.find_change(alloc, Some(wanted), self.item)?;
+                let change = self.predicate.find_change(alloc, wanted, self.item)?;
                 Ok(Answer::Case(change))
             }
             Called::Parameters => Ok(Answer::Parameters(self.predicate.parameters(alloc)?)),
@@ -132,7 +133,7 @@ fn sweep_change<R: AllocGlobal + Print, P: PredicateChange<Item>, Item>(
 {
     let lines = change_lines(rt.alloc(), predicate, item)?;
     let name = format!(in rt.alloc(); "find_change of {}", row.name)?;
-    let called = Called::Change(row.verdict);
+    let called = Called::Change(Some(row.verdict));
     let question = Question {
         predicate,
         item,
@@ -163,7 +164,7 @@ pub fn sweep_calls<R: AllocGlobal + Print, P: PredicateChange<Item>, Item>(
             "none",
             row.opposite,
         ),
-        ("explain", Called::Explained, row.lines, row.case),
+        ("explain", Called::Explained(None), row.lines, row.case),
         (
             "parameters",
             Called::Parameters,
@@ -190,4 +191,46 @@ fn of_list(expected: &str) -> Memory {
     } else {
         Memory::Taken
     }
+}
+
+// The calls that answer by an item, with the verdict that they expect or want.
+const ASKING: [(&str, Called); 9] = [
+    ("eval", Called::Verdict),
+    ("find_case of true", Called::Case(true)),
+    ("find_case of false", Called::Case(false)),
+    ("explain of either", Called::Explained(None)),
+    ("explain of true", Called::Explained(Some(true))),
+    ("explain of false", Called::Explained(Some(false))),
+    ("find_change of either", Called::Change(None)),
+    ("find_change of true", Called::Change(Some(true))),
+    ("find_change of false", Called::Change(Some(false))),
+];
+
+/// Counts how often each call asks the parts of the predicate that take one request for memory
+/// about the item, and none about the plain one, of which the predicate has the same cases: `eval`;
+/// `find_case` of true and of false; `explain` and `find_change` of either, of true and of false.
+pub fn count_asked_calls<R: AllocGlobal + Print, P: PredicateChange<Item>, Item>(
+    rt: &R,
+    name: &str,
+    predicate: &P,
+    items: [&Item; 2],
+    times: [u16; 9],
+) -> Result<(), Wrong>
+    requires { P.lawful predicate.now }
+{
+    let [item, plain] = items;
+    for ((asking, called), times) in ASKING.into_iter().zip(times) {
+        let name = format!(in rt.alloc(); "{asking} by {name}")?;
+        let question = Question {
+            predicate,
+            item,
+            called,
+        };
+        let plain = Question {
+            item: plain,
+            ..question
+        };
+        count_asked(rt, name.as_str(), &question, &plain, times)?;
+    }
+    Ok(())
 }

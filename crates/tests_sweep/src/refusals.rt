@@ -5,7 +5,7 @@ use crate::wrong::{Wrong, require};
 use std::alloc::{AllocError, Global};
 
 // More requests than any of the calls makes.
-const MOST: u16 = 4_000;
+pub(crate) const MOST: u16 = 4_000;
 
 // What came of a run with one refusal or more.
 #[derive(Clone, Copy)]

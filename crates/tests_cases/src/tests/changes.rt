@@ -1,15 +1,6 @@
 //! What would have to change, as the guide prints it beside the reason.
-use crate::tests::made::{Host, owned};
+use crate::tests::made::{Host, has_lines, owned};
 use predicates::prelude::*;
-use predicates_core::reflection::Case;
-
-// Whether the case has these lines.
-fn has_lines(rt: &impl Host, case: Option<Case>, lines: &str) -> bool {
-    match case {
-        Some(case) => render(rt.alloc(), &case).expect(rt, "memory").as_str() == lines,
-        None => false,
-    }
-}
 
 // The reason's lines and those of the change, where the predicate is false of the item.
 fn is_told<P: PredicateChange<Item> + Drop, Item: Drop>(

@@ -1,61 +1,58 @@
 //! The calls of `check`, with ample memory: how their errors print, and what they report.
 mod tree;
 
+use crate::tests::made::{Host, owned, vec_of};
 use predicates::check::{Failure, Sifted, Unmet};
 use predicates::prelude::*;
 use predicates::reflection::{Case, render_onto};
 use predicates_style::Style;
-use std::alloc::{AllocError, Global};
-use std::process::Abort;
-use tests_support::text;
 
 const ELEVEN: &str = "(var >= 5 && var <= 10) = false\n  right: var <= 10 = false\n    - var: 11\n";
 
 // Whether the requirement was met, or its error has this text, as `Display` and as `Debug`.
-fn ends_in(rt: &impl Abort, alloc: Global, ended: Result<(), Unmet>, expected: &str) -> bool {
+fn ends_in(rt: &impl Host, ended: Result<(), Unmet>, expected: &str) -> bool {
     match ended {
         Ok(()) => expected == "met",
         Err(unmet) => {
-            let shown = unmet.to_string(alloc).expect(rt, "memory");
-            let debugged = format!(in alloc; "{unmet:?}").expect(rt, "memory");
+            let shown = unmet.to_string(rt.alloc()).expect(rt, "memory");
+            let debugged = format!(in rt.alloc(); "{unmet:?}").expect(rt, "memory");
             shown.as_str() == expected && debugged.as_str() == expected
         }
     }
 }
 
 // How the requirement that the number is between 5 and 10 ends.
-fn is_required(rt: &impl Abort, alloc: Global, number: i32, expected: &str) -> bool {
+fn is_required(rt: &impl Host, number: i32, expected: &str) -> bool {
     let between = predicate::ge(5i32).and(predicate::le(10i32));
-    ends_in(rt, alloc, require(alloc, &between, &number), expected)
+    ends_in(rt, require(rt.alloc(), &between, &number), expected)
 }
 
 // The same under a label.
-fn is_required_as(rt: &impl Abort, alloc: Global, number: i32, expected: &str) -> bool {
+fn is_required_as(rt: &impl Host, number: i32, expected: &str) -> bool {
     let between = predicate::ge(5i32).and(predicate::le(10i32));
-    let ended = require_as(alloc, "request 17", &between, &number);
-    ends_in(rt, alloc, ended, expected)
+    let ended = require_as(rt.alloc(), "request 17", &between, &number);
+    ends_in(rt, ended, expected)
 }
 
-fn is_eleven_required_as(rt: &impl Abort, alloc: Global) -> bool {
-    let labelled = format!(in alloc; "request 17: {ELEVEN}").expect(rt, "memory");
-    is_required_as(rt, alloc, 11, labelled.as_str())
+fn is_eleven_required_as(rt: &impl Host) -> bool {
+    let labelled = format!(in rt.alloc(); "request 17: {ELEVEN}").expect(rt, "memory");
+    is_required_as(rt, 11, labelled.as_str())
 }
 
-fn is_required_by_function(rt: &impl Abort, alloc: Global, number: i32, expected: &str) -> bool {
+fn is_required_by_function(rt: &impl Host, number: i32, expected: &str) -> bool {
     let bound = 5;
     let big = predicate::function(move |x: &i32| *x >= bound).fn_name("big");
-    ends_in(rt, alloc, require(alloc, &big, &number), expected)
+    ends_in(rt, require(rt.alloc(), &big, &number), expected)
 }
 
 #[test]
 fn requirements(rt: HostRuntime) {
-    let alloc = rt.alloc();
-    assert!(rt; is_required(&rt, alloc, 7, "met"));
-    assert!(rt; is_required(&rt, alloc, 11, ELEVEN));
-    assert!(rt; is_required_as(&rt, alloc, 7, "met"));
-    assert!(rt; is_eleven_required_as(&rt, alloc));
-    assert!(rt; ends_in(&rt, alloc, Err(Unmet::NoMemory), "no memory"));
-    assert!(rt; is_required_by_function(&rt, alloc, 4, "big(var) = false\n"));
+    assert!(rt; is_required(&rt, 7, "met"));
+    assert!(rt; is_required(&rt, 11, ELEVEN));
+    assert!(rt; is_required_as(&rt, 7, "met"));
+    assert!(rt; is_eleven_required_as(&rt));
+    assert!(rt; ends_in(&rt, Err(Unmet::NoMemory), "no memory"));
+    assert!(rt; is_required_by_function(&rt, 4, "big(var) = false\n"));
 }
 
 // No limits.
@@ -106,13 +103,13 @@ fn requirements_in_a_style(rt: HostRuntime) {
         let item = Vec::from_array(alloc, numbers).expect(&rt, "memory");
         let some_large = predicate::ge(5i32).of_any();
         let ended = require_styled(alloc, &style, &some_large, &item);
-        assert!(rt; ends_in(&rt, alloc, ended, expected), "{expected}");
+        assert!(rt; ends_in(&rt, ended, expected), "{expected}");
     }
 }
 
 // The lines of the cases, one after the other.
-fn render_cases(rt: &impl Abort, alloc: Global, cases: &[Case]) -> String {
-    let mut lines = String::new(alloc);
+fn render_cases(rt: &impl Host, cases: &[Case]) -> String {
+    let mut lines = String::new(rt.alloc());
     for case in cases {
         render_onto(&mut lines, case).expect(rt, "memory");
     }
@@ -120,118 +117,87 @@ fn render_cases(rt: &impl Abort, alloc: Global, cases: &[Case]) -> String {
 }
 
 // Whether the cases have these lines; they end here.
-fn are_cases(rt: &impl Abort, alloc: Global, cases: Vec<Case>, lines: &str) -> bool {
-    render_cases(rt, alloc, cases.as_slice()).as_str() == lines
+fn are_cases(rt: &impl Host, cases: Vec<Case>, lines: &str) -> bool {
+    render_cases(rt, cases.as_slice()).as_str() == lines
 }
 
 // The second and the third of three numbers are too large for 7.
-fn numbers_fail(rt: &impl Abort, alloc: Global, lines: &str) -> bool {
+fn numbers_fail(rt: &impl Host, lines: &str) -> bool {
     let rules = [predicate::ge(5i32), predicate::ge(10), predicate::gt(7)];
-    are_cases(
-        rt,
-        alloc,
-        failures(alloc, &rules, &7).expect(rt, "memory"),
-        lines,
-    )
+    let cases = failures(rt.alloc(), &rules, &7).expect(rt, "memory");
+    are_cases(rt, cases, lines)
 }
 
 // The same by stored functions.
-fn functions_fail(rt: &impl Abort, alloc: Global, lines: &str) -> bool {
-    let mut rules = Vec::new(alloc);
+fn functions_fail(rt: &impl Host, lines: &str) -> bool {
+    let mut rules = Vec::new(rt.alloc());
     for bound in [5, 10, 8] {
         rules
             .push(predicate::function(move |x: &i32| *x >= bound))
             .expect(rt, "memory");
     }
-    are_cases(
-        rt,
-        alloc,
-        failures(alloc, rules.as_slice(), &7).expect(rt, "memory"),
-        lines,
-    )
+    let cases = failures(rt.alloc(), rules.as_slice(), &7).expect(rt, "memory");
+    are_cases(rt, cases, lines)
 }
 
 // Rules of several types, one after the other.
-fn several_types_fail(alloc: Global) -> Result<Vec<Case>, AllocError> {
+fn several_types_fail(rt: &impl Host) -> Vec<Case> {
+    let alloc = rt.alloc();
     let mut cases = Vec::new(alloc);
-    add_failure(alloc, &mut cases, &predicate::ge(10), &7)?;
-    add_failure(alloc, &mut cases, &predicate::always(), &7)?;
+    add_failure(alloc, &mut cases, &predicate::ge(10), &7).expect(rt, "memory");
+    add_failure(alloc, &mut cases, &predicate::always(), &7).expect(rt, "memory");
     let small = predicate::function(|x: &i32| *x < 5).fn_name("small");
-    add_failure(alloc, &mut cases, &small, &7)?;
-    Ok(cases)
+    add_failure(alloc, &mut cases, &small, &7).expect(rt, "memory");
+    cases
 }
 
 #[test]
 fn all_failures(rt: HostRuntime) {
-    let alloc = rt.alloc();
     let lines = "var >= 10 = false\n  - var: 7\nvar > 7 = false\n  - var: 7\n";
-    assert!(rt; numbers_fail(&rt, alloc, lines));
-    assert!(rt; functions_fail(&rt, alloc, "fn(var) = false\nfn(var) = false\n"));
+    assert!(rt; numbers_fail(&rt, lines));
+    assert!(rt; functions_fail(&rt, "fn(var) = false\nfn(var) = false\n"));
     let lines = "var >= 10 = false\n  - var: 7\nsmall(var) = false\n";
-    assert!(rt;
-        are_cases(
-            &rt,
-            alloc,
-            several_types_fail(alloc).expect(&rt, "memory"),
-            lines
-        )
-    );
+    assert!(rt; are_cases(&rt, several_types_fail(&rt), lines));
 }
 
 // Whether 7 and 5 were kept and these two rejected, the second of them with these lines.
-fn keeps(
-    rt: &impl Abort,
-    alloc: Global,
-    sifted: Sifted<i32>,
-    others: [i32; 2],
-    lines: &str,
-) -> bool {
+fn keeps(rt: &impl Host, sifted: Sifted<i32>, others: [i32; 2], lines: &str) -> bool {
     match sifted.rejected.as_slice() {
         [first, second] => {
             let are_right = sifted.kept.as_slice() == [7, 5].as_slice()
                 && [first.item, second.item] == others;
-            render(alloc, &second.reason).expect(rt, "memory").as_str() == lines && are_right
+            let reason = render(rt.alloc(), &second.reason).expect(rt, "memory");
+            reason.as_str() == lines && are_right
         }
         _ => false,
     }
 }
 
-fn sifts_by_numbers(alloc: Global) -> Result<Sifted<i32>, AllocError> {
+fn sifts_by_numbers(rt: &impl Host) -> bool {
     let between = predicate::ge(5).and(predicate::le(10));
-    let sifted = sift(alloc, &between, vec![in alloc; 4, 7, 11, 5]?)?;
-    Ok(sifted)
+    let sifted = sift(rt.alloc(), &between, vec_of(rt, &[4, 7, 11, 5])).expect(rt, "memory");
+    keeps(rt, sifted, [4, 11], ELEVEN)
 }
 
 #[test]
 fn sifts(rt: HostRuntime) {
-    let alloc = rt.alloc();
-    assert!(rt;
-        keeps(
-            &rt,
-            alloc,
-            sifts_by_numbers(alloc).expect(&rt, "memory"),
-            [4, 11],
-            ELEVEN
-        )
-    );
+    assert!(rt; sifts_by_numbers(&rt));
 }
 
-fn sifts_by_bound(rt: &impl Abort, alloc: Global, bound: i32) -> bool {
+fn sifts_by_bound(rt: &impl Host, bound: i32) -> bool {
     let big = predicate::function(move |x: &i32| *x >= bound).fn_name("big");
-    let sifted = sift(alloc, &big, vec![in alloc; 4, 7, 3, 5].expect(rt, "memory")).expect(
-        rt, "memory",
-    );
-    keeps(rt, alloc, sifted, [4, 3], "big(var) = false\n")
+    let sifted = sift(rt.alloc(), &big, vec_of(rt, &[4, 7, 3, 5])).expect(rt, "memory");
+    keeps(rt, sifted, [4, 3], "big(var) = false\n")
 }
 
 #[test]
 fn sifts_by_a_function(rt: HostRuntime) {
-    assert!(rt; sifts_by_bound(&rt, rt.alloc(), 5));
+    assert!(rt; sifts_by_bound(&rt, 5));
 }
 
 // The label of each failure and the lines of its case.
-fn render_failures(rt: &impl Abort, alloc: Global, failures: &[Failure]) -> String {
-    let mut out = String::new(alloc);
+fn render_failures(rt: &impl Host, failures: &[Failure]) -> String {
+    let mut out = String::new(rt.alloc());
     for Failure { label, reason } in failures {
         out.push_str(label.as_str()).expect(rt, "memory");
         out.push_str(": ").expect(rt, "memory");
@@ -240,23 +206,21 @@ fn render_failures(rt: &impl Abort, alloc: Global, failures: &[Failure]) -> Stri
     out
 }
 
-fn failures_of_names(rt: &impl Abort, alloc: Global) -> String {
+fn failures_of_names(rt: &impl Host) -> String {
+    let alloc = rt.alloc();
     let mut expected = Vec::new(alloc);
     for (label, name) in [("first", "Ada"), ("second", "Bob"), ("third", "")] {
-        let starts = predicate::str::starts_with(text(alloc, "A").expect(rt, "memory"));
-        expected
-            .push(expect(alloc, label, text(alloc, name).expect(rt, "memory"), starts).expect(
-                rt, "memory",
-            ))
-            .expect(rt, "memory");
+        let starts = predicate::str::starts_with(owned(rt, "A"));
+        let starting = expect(alloc, label, owned(rt, name), starts).expect(rt, "memory");
+        expected.push(starting).expect(rt, "memory");
     }
     let failures = check_all(alloc, expected.as_slice()).expect(rt, "memory");
-    render_failures(rt, alloc, failures.as_slice())
+    render_failures(rt, failures.as_slice())
 }
 
 #[test]
 fn expectations(rt: HostRuntime) {
-    let failures = failures_of_names(&rt, rt.alloc());
+    let failures = failures_of_names(&rt);
     assert_eq!(rt;
         failures.as_str(),
         "\
@@ -268,9 +232,9 @@ third: var.starts_with(\"A\") = false
 }
 
 // Whether each failure prints its label and the lines of its case, as `Display` and as `Debug`.
-fn print_themselves(rt: &impl Abort, alloc: Global, failures: &[Failure]) -> bool {
-    let expected = render_failures(rt, alloc, failures);
-    let (mut shown, mut debugged) = (String::new(alloc), String::new(alloc));
+fn print_themselves(rt: &impl Host, failures: &[Failure]) -> bool {
+    let expected = render_failures(rt, failures);
+    let (mut shown, mut debugged) = (String::new(rt.alloc()), String::new(rt.alloc()));
     for failure in failures {
         write!(shown, "{failure}").expect(rt, "memory");
         write!(debugged, "{failure:?}").expect(rt, "memory");
@@ -279,7 +243,8 @@ fn print_themselves(rt: &impl Abort, alloc: Global, failures: &[Failure]) -> boo
 }
 
 // Of numbers that are not to be between 5 and 10, two are; their cases have three levels.
-fn two_print_themselves(rt: &impl Abort, alloc: Global) -> bool {
+fn two_print_themselves(rt: &impl Host) -> bool {
+    let alloc = rt.alloc();
     let mut expected = Vec::new(alloc);
     for (label, number) in [("seven", 7), ("four", 4), ("six", 6)] {
         let between = predicate::ge(5i32).and(predicate::le(10i32)).not();
@@ -288,16 +253,17 @@ fn two_print_themselves(rt: &impl Abort, alloc: Global) -> bool {
             .expect(rt, "memory");
     }
     let failures = check_all(alloc, expected.as_slice()).expect(rt, "memory");
-    failures.len() == 2 && print_themselves(rt, alloc, failures.as_slice())
+    failures.len() == 2 && print_themselves(rt, failures.as_slice())
 }
 
 #[test]
 fn failures_print_themselves(rt: HostRuntime) {
-    assert!(rt; two_print_themselves(&rt, rt.alloc()));
+    assert!(rt; two_print_themselves(&rt));
 }
 
 // How requiring ends that one, two and three tickets cost so much, at most 9 each.
-fn are_required(rt: &impl Abort, alloc: Global, prices: [u32; 3], expected: &str) -> bool {
+fn are_required(rt: &impl Host, prices: [u32; 3], expected: &str) -> bool {
+    let alloc = rt.alloc();
     let [one, two, three] = prices;
     let mut expectations = Vec::new(alloc);
     expectations
@@ -309,12 +275,7 @@ fn are_required(rt: &impl Abort, alloc: Global, prices: [u32; 3], expected: &str
     expectations
         .push(expect(alloc, "three tickets", three, predicate::le(27)).expect(rt, "memory"))
         .expect(rt, "memory");
-    ends_in(
-        rt,
-        alloc,
-        require_all(alloc, expectations.as_slice()),
-        expected,
-    )
+    ends_in(rt, require_all(alloc, expectations.as_slice()), expected)
 }
 
 const THREE_PRICES: &str = "\
@@ -335,8 +296,7 @@ three tickets: var <= 27 = false
 
 #[test]
 fn all_required(rt: HostRuntime) {
-    let alloc = rt.alloc();
-    assert!(rt; are_required(&rt, alloc, [9, 18, 27], "met"));
-    assert!(rt; are_required(&rt, alloc, [11, 22, 33], THREE_PRICES));
-    assert!(rt; are_required(&rt, alloc, [10, 18, 28], OUTER_PRICES));
+    assert!(rt; are_required(&rt, [9, 18, 27], "met"));
+    assert!(rt; are_required(&rt, [11, 22, 33], THREE_PRICES));
+    assert!(rt; are_required(&rt, [10, 18, 28], OUTER_PRICES));
 }

@@ -1,6 +1,6 @@
 //! What the helpers of tests take, and values that they own.
 use predicates::Predicate;
-use predicates::reflection::PredicateReflection;
+use predicates::reflection::{Case, PredicateReflection, render};
 use std::process::Abort;
 
 /// The runtime of a test, which ends the test and has memory.
@@ -38,4 +38,12 @@ pub fn explains<P: Predicate<Item> + Drop, Item: Drop>(
 /// Whether its printed text, its parameters and its children are these lines.
 pub fn describes<P: PredicateReflection + Drop>(rt: &impl Host, predicate: P, lines: &str) -> bool {
     tests_support::is_described(rt.alloc(), &predicate, lines).expect(rt, "memory")
+}
+
+/// Whether there is a case, with these lines.
+pub fn has_lines(rt: &impl Host, found: Option<Case>, lines: &str) -> bool {
+    match found {
+        Some(case) => render(rt.alloc(), &case).expect(rt, "memory").as_str() == lines,
+        None => false,
+    }
 }

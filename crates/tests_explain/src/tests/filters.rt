@@ -1,23 +1,15 @@
 //! The filters over lines: which are written, with their ends, and how many; and what is told of
 //! the others.
-use super::read_check;
+use super::{Host, read_check};
 use explain_run::{Filtered, RunFault, filter_lines, filter_with_reasons};
 use predicates::prelude::*;
-use std::alloc::Global;
 use std::io::ErrorKind;
-use std::process::Abort;
 use tests_support::{FailingWriter, text};
 
 // Whether the lines of the input that contain `#`, or those that do not, are these, with the
 // counts.
-fn keeps(
-    rt: &impl Abort,
-    alloc: Global,
-    wanted: bool,
-    input: &[u8],
-    lines: &[u8],
-    counts: Filtered,
-) -> bool {
+fn keeps(rt: &impl Host, wanted: bool, input: &[u8], lines: &[u8], counts: Filtered) -> bool {
+    let alloc = rt.alloc();
     let marked = predicate::str::contains(text(alloc, "#").expect(rt, "memory"));
     let mut reader = input;
     let mut output = Vec::new(alloc);
@@ -39,10 +31,7 @@ const ROWS: [(bool, &[u8], &[u8], u64, u64); 6] = [
 fn lines_by_their_verdict(rt: HostRuntime) {
     for (wanted, input, lines, written, not_utf8) in ROWS {
         let counts = Filtered { written, not_utf8 };
-        assert!(rt;
-            keeps(&rt, rt.alloc(), wanted, input, lines, counts),
-            "{input:?}"
-        );
+        assert!(rt; keeps(&rt, wanted, input, lines, counts), "{input:?}");
     }
 }
 
@@ -54,15 +43,9 @@ struct Sifted<'a> {
 }
 
 // Whether that filter writes these to its two writers.
-fn tells(
-    rt: &impl Abort,
-    alloc: Global,
-    words: &[&str],
-    wanted: bool,
-    input: &[u8],
-    sifted: Sifted<'_>,
-) -> bool {
-    let check = read_check(rt, alloc, words);
+fn tells(rt: &impl Host, words: &[&str], wanted: bool, input: &[u8], sifted: Sifted<'_>) -> bool {
+    let alloc = rt.alloc();
+    let check = read_check(rt, words);
     let mut reader = input;
     let (mut output, mut reasons) = (Vec::new(alloc), Vec::new(alloc));
     filter_with_reasons(
@@ -119,7 +102,7 @@ var.contains(#) = true
 fn reasons_of_the_lines_left_out(rt: HostRuntime) {
     for (wanted, input, lines, told) in MARKED {
         let sifted = Sifted { lines, told };
-        let holds = tells(&rt, rt.alloc(), &["contains=#"], wanted, input, sifted);
+        let holds = tells(&rt, &["contains=#"], wanted, input, sifted);
         assert!(rt; holds, "{input:?}");
     }
 }
@@ -141,18 +124,25 @@ fn reasons_of_a_comment(rt: HostRuntime) {
         lines: b"one\ntwo\n",
         told: COMMENT,
     };
-    let holds = tells(&rt, rt.alloc(), &words, true, input, sifted);
+    let holds = tells(&rt, &words, true, input, sifted);
     assert!(rt; holds);
 }
 
 // Whether the filter over two lines that are left out and one that is written ends by the fault,
 // where the writer of the reasons fails after this many calls.
-fn ends_by(rt: &impl Abort, alloc: Global, calls: usize, kind: ErrorKind, fault: RunFault) -> bool {
-    let check = read_check(rt, alloc, &["contains=#"]);
+fn ends_by(rt: &impl Host, calls: usize, kind: ErrorKind, fault: RunFault) -> bool {
+    let check = read_check(rt, &["contains=#"]);
     let mut reader = b"a\n#\nb\n".as_slice();
-    let mut output = Vec::new(alloc);
+    let mut output = Vec::new(rt.alloc());
     let mut reasons = FailingWriter { calls, kind };
-    let ended = filter_with_reasons(alloc, &check, true, &mut reader, &mut output, &mut reasons);
+    let ended = filter_with_reasons(
+        rt.alloc(),
+        &check,
+        true,
+        &mut reader,
+        &mut output,
+        &mut reasons,
+    );
     ended == Err(fault)
 }
 
@@ -166,10 +156,7 @@ const FAULTS: [(ErrorKind, RunFault); 2] = [
 fn failing_writes_of_reasons(rt: HostRuntime) {
     for (kind, fault) in FAULTS {
         for calls in 0..3usize {
-            assert!(rt;
-                ends_by(&rt, rt.alloc(), calls, kind, fault),
-                "{fault}, {calls}"
-            );
+            assert!(rt; ends_by(&rt, calls, kind, fault), "{fault}, {calls}");
         }
     }
 }

@@ -1,11 +1,9 @@
 //! Checks of words: policies that are read and asked, each error's text, and the limit of depth.
-use super::{is_shown, read_check, texts_of};
+use super::{Host, is_shown, nested, read_check, texts_of};
 use explain_run::{MAX_DEPTH, TextCheck, WordsError};
 use explain_words::take_word;
 use predicates::Predicate;
 use predicates::prelude::*;
-use std::alloc::Global;
-use std::process::Abort;
 
 // Words, and the text of their error.
 const REJECTED: [(&[&str], &str); 6] = [
@@ -24,7 +22,8 @@ const REJECTED: [(&[&str], &str); 6] = [
 ];
 
 // The text of the words' error, or `read` where they are read.
-fn error_text(rt: &impl Abort, alloc: Global, words: &[String]) -> String {
+fn error_text(rt: &impl Host, words: &[String]) -> String {
+    let alloc = rt.alloc();
     match TextCheck::from_words(alloc, words) {
         Ok(_) => String::from_str(alloc, "read").expect(rt, "memory"),
         Err(error) => error.to_string(alloc).expect(rt, "memory"),
@@ -32,25 +31,24 @@ fn error_text(rt: &impl Abort, alloc: Global, words: &[String]) -> String {
 }
 
 // Whether this is the text of the words' error.
-fn is_told(rt: &impl Abort, alloc: Global, words: Vec<String>, expected: &str) -> bool {
-    let text = error_text(rt, alloc, &words);
+fn is_told(rt: &impl Host, words: Vec<String>, expected: &str) -> bool {
+    let text = error_text(rt, &words);
     text.as_str() == expected
 }
 
 #[test]
 fn texts_of_errors(rt: HostRuntime) {
-    let alloc = rt.alloc();
     for (tokens, expected) in REJECTED {
-        let right = is_told(&rt, alloc, texts_of(&rt, alloc, tokens), expected);
+        let right = is_told(&rt, texts_of(&rt, tokens), expected);
         assert!(rt; right, "{expected}");
     }
-    assert!(rt; is_shown(&rt, alloc, WordsError::NoMemory, "no memory"));
+    assert!(rt; is_shown(&rt, WordsError::NoMemory, "no memory"));
 }
 
 #[test]
 fn check_that_the_words_leave(rt: HostRuntime) {
     let alloc = rt.alloc();
-    let words = texts_of(&rt, alloc, &["empty", "trim", "not"]);
+    let words = texts_of(&rt, &["empty", "trim", "not"]);
     let text = String::from_str(alloc, "a").expect(&rt, "memory");
     let check = TextCheck::from_words(alloc, &words).expect(&rt, "memory"); // `empty`, `trim`, `not`
     assert!(rt; check.eval(alloc, &text).expect(&rt, "memory"));
@@ -69,53 +67,33 @@ fn words_are_taken_one_by_one(rt: HostRuntime) {
     assert!(rt; checks.len() == 1);
 }
 
-// `empty`, and then the token so often, each time over a leaf of its own where it takes two checks.
-fn nested(rt: &impl Abort, alloc: Global, token: &str, levels: usize) -> Vec<String> {
-    let mut words = texts_of(rt, alloc, &["empty"]);
-    for _ in 0..levels {
-        if token == "or" {
-            words
-                .push(String::from_str(alloc, "empty").expect(rt, "memory"))
-                .expect(rt, "memory");
-        }
-        words
-            .push(String::from_str(alloc, token).expect(rt, "memory"))
-            .expect(rt, "memory");
-    }
-    words
-}
-
 // Whether the deepest check that is read holds of no characters.
-fn deepest_holds(rt: &impl Abort, alloc: Global, token: &str) -> bool {
-    let words = nested(rt, alloc, token, MAX_DEPTH);
+fn deepest_holds(rt: &impl Host, tokens: &[&str]) -> bool {
+    let alloc = rt.alloc();
+    let words = nested(rt, tokens, MAX_DEPTH);
     let check = TextCheck::from_words(alloc, &words).expect(rt, "memory");
     check.eval(alloc, &String::new(alloc)).expect(rt, "memory")
 }
 
-const TOO_DEEP: [(&str, &str); 2] = [
-    ("not", "word 2002, \"not\": check nested too deep"),
-    ("or", "word 4003, \"or\": check nested too deep"),
+const TOO_DEEP: [(&[&str], &str); 2] = [
+    (&["not"], "word 2002, \"not\": check nested too deep"),
+    (&["empty", "or"], "word 4003, \"or\": check nested too deep"),
 ];
 
 #[test]
 fn limit_of_depth(rt: HostRuntime) {
-    let alloc = rt.alloc();
-    for (token, expected) in TOO_DEEP {
-        let is_read = is_told(&rt, alloc, nested(&rt, alloc, token, MAX_DEPTH), "read");
-        assert!(rt; is_read, "{token}");
-        assert!(rt; deepest_holds(&rt, alloc, token), "{token}");
-        let is_refused = is_told(
-            &rt,
-            alloc,
-            nested(&rt, alloc, token, MAX_DEPTH + 5),
-            expected,
-        );
-        assert!(rt; is_refused, "{token}");
+    for (tokens, expected) in TOO_DEEP {
+        let is_read = is_told(&rt, nested(&rt, tokens, MAX_DEPTH), "read");
+        assert!(rt; is_read, "{expected}");
+        assert!(rt; deepest_holds(&rt, tokens), "{expected}");
+        let is_refused = is_told(&rt, nested(&rt, tokens, MAX_DEPTH + 5), expected);
+        assert!(rt; is_refused, "{expected}");
     }
 }
 
 // Why the policy does not hold of the item, or `met`.
-fn outcome(rt: &impl Abort, alloc: Global, policy: &TextCheck, item: &str) -> String {
+fn outcome(rt: &impl Host, policy: &TextCheck, item: &str) -> String {
+    let alloc = rt.alloc();
     match require(
         alloc,
         policy,
@@ -129,20 +107,20 @@ fn outcome(rt: &impl Abort, alloc: Global, policy: &TextCheck, item: &str) -> St
 const POLICY: [&str; 6] = ["empty", "trim", "not", "contains=#", "not", "and"];
 
 // Whether this is said of the item.
-fn says(rt: &impl Abort, alloc: Global, item: &str, expected: &str) -> bool {
-    let policy = read_check(rt, alloc, &POLICY);
-    let text = outcome(rt, alloc, &policy, item);
+fn says(rt: &impl Host, item: &str, expected: &str) -> bool {
+    let policy = read_check(rt, &POLICY);
+    let text = outcome(rt, &policy, item);
     text.as_str() == expected
 }
 
 #[test]
 fn policies(rt: HostRuntime) {
-    assert!(rt; says(&rt, rt.alloc(), "a line", "met"));
+    assert!(rt; says(&rt, "a line", "met"));
     let lines = "\
 ((! var.is_empty()) && (! var.contains(#))) = false
   right: (! var.contains(#)) = false
     predicate: var.contains(#) = true
       - var: a # b
 ";
-    assert!(rt; says(&rt, rt.alloc(), "a # b", lines));
+    assert!(rt; says(&rt, "a # b", lines));
 }

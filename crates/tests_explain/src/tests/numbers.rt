@@ -1,12 +1,11 @@
 //! What no contract says: that calls succeed, and where faults come from.
-use super::is_shown;
+use super::{Host, is_shown};
 use explain_run::{RunFault, explain_one, explain_total, number, run_between};
 use predicates::Total;
 use predicates::boolean::PredicateBooleanExt;
 use predicates::ord::{ge, le, lt};
 use std::alloc::Global;
 use std::io::ErrorKind;
-use std::process::Abort;
 use tests_support::{Narrow, Slow, Unflushed, keeps_text};
 
 /// The block of 7 between 5 and 10.
@@ -142,14 +141,7 @@ fn flushed_at_each_end(rt: HostRuntime) {
 
 #[test]
 fn flags_change_no_fault(rt: HostRuntime) {
-    assert!(rt;
-        is_shown(
-            &rt,
-            rt.alloc(),
-            RunFault::Output,
-            "output could not be written"
-        )
-    );
+    assert!(rt; is_shown(&rt, RunFault::Output, "output could not be written"));
     for fault in [RunFault::NoMemory, RunFault::Input, RunFault::Output] {
         assert!(rt; keeps_text(rt.alloc(), &fault).expect(&rt, "memory"));
     }
@@ -214,27 +206,25 @@ fn bounds_that_hold_no_number_one_or_all(rt: HostRuntime) {
 
 /// Whether the block of the item under the label is this one.
 pub fn is_one<P: Total<i64> + Drop>(
-    rt: &impl Abort,
-    alloc: Global,
+    rt: &impl Host,
     predicate: P,
     label: &str,
     item: i64,
     block: &str,
 ) -> bool {
-    let text = explain_one(alloc, &predicate, label, &item).expect(rt, "memory");
+    let text = explain_one(rt.alloc(), &predicate, label, &item).expect(rt, "memory");
     text.as_str() == block
 }
 
 /// The same of the block that is always made.
 pub fn is_total<P: Total<i64> + Drop>(
-    rt: &impl Abort,
-    alloc: Global,
+    rt: &impl Host,
     predicate: P,
     label: &str,
     item: i64,
     block: &str,
 ) -> bool {
-    let text = explain_total(alloc, &predicate, label, &item).expect(rt, "memory");
+    let text = explain_total(rt.alloc(), &predicate, label, &item).expect(rt, "memory");
     text.as_str() == block
 }
 
@@ -249,9 +239,9 @@ line 3: true
 #[test]
 fn blocks_of_one_item(rt: HostRuntime) {
     let between = ge(5i64).and(le(10i64));
-    assert!(rt; is_one(&rt, rt.alloc(), between, "7", 7, SEVEN));
+    assert!(rt; is_one(&rt, between, "7", 7, SEVEN));
     let outside = lt(5i64).or(le(10i64).not());
-    assert!(rt; is_total(&rt, rt.alloc(), outside, "line 3", 11, OUTSIDE));
+    assert!(rt; is_total(&rt, outside, "line 3", 11, OUTSIDE));
 }
 
 const NUMBERS: [(&str, Option<i64>); 9] = [

@@ -3,9 +3,8 @@ mod faults;
 mod process;
 mod sizes;
 
+use super::Host;
 use explain_run::{MAX_DEPTH, run_command_line};
-use std::alloc::Global;
-use std::process::Abort;
 
 const USAGE: &str = "usage: explain between LO HI\nusage: explain text TOKEN..\n";
 
@@ -20,7 +19,8 @@ line 1: true
     - var: \n";
 
 // The words, parted by `|`.
-fn split_words(rt: &impl Abort, alloc: Global, line: &[u8]) -> Vec<Vec<u8>> {
+fn split_words(rt: &impl Host, line: &[u8]) -> Vec<Vec<u8>> {
+    let alloc = rt.alloc();
     let mut words = Vec::new(alloc);
     let mut word = Vec::new(alloc);
     for byte in line {
@@ -90,8 +90,9 @@ struct End<'a> {
 }
 
 // Whether the words end so on the input, and the message could be written.
-fn ends(rt: &impl Abort, alloc: Global, line: &[u8], input: &[u8], wanted: End<'_>) -> bool {
-    let words = split_words(rt, alloc, line);
+fn ends(rt: &impl Host, line: &[u8], input: &[u8], wanted: End<'_>) -> bool {
+    let alloc = rt.alloc();
+    let words = split_words(rt, line);
     let mut reader = input;
     let mut written = Vec::new(alloc);
     let mut messages = Vec::new(alloc);
@@ -123,37 +124,37 @@ fn statuses_and_outputs_of_words(rt: HostRuntime) {
             output,
             message: "",
         };
-        assert!(rt; ends(&rt, rt.alloc(), line, input, wanted), "at {line:?}");
+        assert!(rt; ends(&rt, line, input, wanted), "at {line:?}");
     }
 }
 
 // Whether the words are refused with the message, whatever the input.
-fn is_refused(rt: &impl Abort, alloc: Global, line: &[u8], message: &str) -> bool {
+fn is_refused(rt: &impl Host, line: &[u8], message: &str) -> bool {
     let wanted = End {
         status: 2,
         output: "",
         message,
     };
-    ends(rt, alloc, line, b"7", wanted)
+    ends(rt, line, b"7", wanted)
 }
 
 #[test]
 fn wrong_words(rt: HostRuntime) {
     for line in WRONG_WORDS {
-        assert!(rt; is_refused(&rt, rt.alloc(), line, USAGE), "at {line:?}");
+        assert!(rt; is_refused(&rt, line, USAGE), "at {line:?}");
     }
 }
 
 #[test]
 fn refused_patterns(rt: HostRuntime) {
     for line in REFUSED_PATTERNS {
-        assert!(rt; is_refused(&rt, rt.alloc(), line, REFUSED), "at {line:?}");
+        assert!(rt; is_refused(&rt, line, REFUSED), "at {line:?}");
     }
 }
 
 // A check of one level past the limit, and then these words.
-fn deep_line(rt: &impl Abort, alloc: Global, end: &[u8]) -> Vec<u8> {
-    let mut line = Vec::from_slice(alloc, b"text|empty").expect(rt, "memory");
+fn deep_line(rt: &impl Host, end: &[u8]) -> Vec<u8> {
+    let mut line = Vec::from_slice(rt.alloc(), b"text|empty").expect(rt, "memory");
     for _ in 0..=MAX_DEPTH {
         line.extend_from_slice(b"|not").expect(rt, "memory");
     }
@@ -162,14 +163,14 @@ fn deep_line(rt: &impl Abort, alloc: Global, end: &[u8]) -> Vec<u8> {
 }
 
 // Whether such a check is rejected.
-fn is_too_deep(rt: &impl Abort, alloc: Global, end: &[u8]) -> bool {
-    let line = deep_line(rt, alloc, end);
-    is_refused(rt, alloc, &line, DEEP)
+fn is_too_deep(rt: &impl Host, end: &[u8]) -> bool {
+    let line = deep_line(rt, end);
+    is_refused(rt, &line, DEEP)
 }
 
 // Also before a word that is wrong by itself.
 #[test]
 fn deep_checks(rt: HostRuntime) {
-    assert!(rt; is_too_deep(&rt, rt.alloc(), b""));
-    assert!(rt; is_too_deep(&rt, rt.alloc(), b"|match=("));
+    assert!(rt; is_too_deep(&rt, b""));
+    assert!(rt; is_too_deep(&rt, b"|match=("));
 }

@@ -1,9 +1,8 @@
-use super::read_check;
+use super::{Host, read_check};
 use explain_run::run_text;
 use predicates::BoxPredicate;
 use predicates::prelude::*;
 use std::alloc::Global;
-use std::process::Abort;
 
 // Tokens, an input, what is written for it, and whether every line is a text.
 const ROWS: [(&[&str], &[u8], &str, bool); 7] = [
@@ -84,24 +83,17 @@ line 3: true
 ];
 
 // Whether the check of the tokens answers so.
-fn answers(
-    rt: &impl Abort,
-    alloc: Global,
-    tokens: &[&str],
-    mut input: &[u8],
-    expected: &str,
-    all: bool,
-) -> bool {
-    let check = read_check(rt, alloc, tokens);
-    let mut output = Vec::new(alloc);
-    let answer = run_text(alloc, &check, &mut input, &mut output);
+fn answers(rt: &impl Host, tokens: &[&str], mut input: &[u8], expected: &str, all: bool) -> bool {
+    let check = read_check(rt, tokens);
+    let mut output = Vec::new(rt.alloc());
+    let answer = run_text(rt.alloc(), &check, &mut input, &mut output);
     answer == Ok(all) && output.as_slice() == expected.as_bytes()
 }
 
 #[test]
 fn lines_of_checks_of_words(rt: HostRuntime) {
     for (tokens, input, expected, all) in ROWS {
-        let holds = answers(&rt, rt.alloc(), tokens, input, expected, all);
+        let holds = answers(&rt, tokens, input, expected, all);
         assert!(rt; holds, "for {expected:?}");
     }
 }
@@ -112,7 +104,8 @@ const IN_A_BOX: &[u8] =
 const OF_A_FUNCTION: &[u8] = b"line 1: true\nshort(var) = true\n";
 
 // Whether a predicate in a box answers true of `b`, and this is written.
-fn answers_in_a_box(rt: &impl Abort, alloc: Global) -> bool {
+fn answers_in_a_box(rt: &impl Host) -> bool {
+    let alloc = rt.alloc();
     let boxed = BoxPredicate::new(
         alloc,
         Box::new(alloc, predicate::str::is_empty()).expect(rt, "memory"),
@@ -136,6 +129,6 @@ fn answers_of_a_function(alloc: Global) -> bool {
 // Any predicate of texts will do: one in a box, and one with a stored function.
 #[test]
 fn other_predicates(rt: HostRuntime) {
-    assert!(rt; answers_in_a_box(&rt, rt.alloc()));
+    assert!(rt; answers_in_a_box(&rt));
     assert!(rt; answers_of_a_function(rt.alloc()));
 }

@@ -1,38 +1,36 @@
-use super::is_shown;
+use super::{Host, is_shown};
 use explain_run::{TextCheck, Word, WordFault, apply_word, read_word};
 use predicates::Predicate;
 use predicates::reflection::PredicateReflection;
 use std::alloc::Global;
-use std::process::Abort;
 use tests_support::keeps_text;
 
 // Whether the token is this word.
-fn reads(rt: &impl Abort, alloc: Global, token: &str, word: Option<Word>) -> bool {
-    read_word(alloc, token).expect(rt, "memory") == word
+fn reads(rt: &impl Host, token: &str, word: Option<Word>) -> bool {
+    read_word(rt.alloc(), token).expect(rt, "memory") == word
 }
 
 // Whether the token is the word of this text.
-fn reads_equals(rt: &impl Abort, alloc: Global, token: &str, text: &str) -> bool {
-    let equals = Word::Equals(String::from_str(alloc, text).expect(rt, "memory"));
-    reads(rt, alloc, token, Some(equals))
+fn reads_equals(rt: &impl Host, token: &str, text: &str) -> bool {
+    let equals = Word::Equals(String::from_str(rt.alloc(), text).expect(rt, "memory"));
+    reads(rt, token, Some(equals))
 }
 
 // Whether the token is the word of this pattern.
-fn reads_matches(rt: &impl Abort, alloc: Global, token: &str, pattern: &str) -> bool {
-    let matches = Word::Matches(String::from_str(alloc, pattern).expect(rt, "memory"));
-    reads(rt, alloc, token, Some(matches))
+fn reads_matches(rt: &impl Host, token: &str, pattern: &str) -> bool {
+    let matches = Word::Matches(String::from_str(rt.alloc(), pattern).expect(rt, "memory"));
+    reads(rt, token, Some(matches))
 }
 
 #[test]
 fn which_tokens_are_words(rt: HostRuntime) {
-    let alloc = rt.alloc();
-    assert!(rt; reads_equals(&rt, alloc, "eq=a=b", "a=b"));
-    assert!(rt; reads_equals(&rt, alloc, "eq=", ""));
-    assert!(rt; reads_matches(&rt, alloc, "match=T[a-z]*", "T[a-z]*"));
-    assert!(rt; reads(&rt, alloc, "normalize", Some(Word::Normalize)));
-    assert!(rt; reads(&rt, alloc, "xor", Some(Word::Xor)));
+    assert!(rt; reads_equals(&rt, "eq=a=b", "a=b"));
+    assert!(rt; reads_equals(&rt, "eq=", ""));
+    assert!(rt; reads_matches(&rt, "match=T[a-z]*", "T[a-z]*"));
+    assert!(rt; reads(&rt, "normalize", Some(Word::Normalize)));
+    assert!(rt; reads(&rt, "xor", Some(Word::Xor)));
     for token in ["eq", "empty=", "xors", "", "=", "Empty", "starts", "or "] {
-        assert!(rt; reads(&rt, alloc, token, None), "at {token:?}");
+        assert!(rt; reads(&rt, token, None), "at {token:?}");
     }
 }
 
@@ -76,17 +74,17 @@ const STEPS: [(&[&str], Result<(), WordFault>, usize); 10] = [
 ];
 
 // Whether the first check prints this text.
-fn prints(rt: &impl Abort, alloc: Global, stack: &[TextCheck], expected: &str) -> bool {
+fn prints(rt: &impl Host, stack: &[TextCheck], expected: &str) -> bool {
     let check = stack.first().expect(rt, "no check");
-    let text = check.to_string(alloc).expect(rt, "memory");
+    let text = check.to_string(rt.alloc()).expect(rt, "memory");
     text.as_str() == expected
 }
 
 // How many parameters and children the first check has.
-fn counts(rt: &impl Abort, alloc: Global, stack: &[TextCheck]) -> (usize, usize) {
+fn counts(rt: &impl Host, stack: &[TextCheck]) -> (usize, usize) {
     let check = stack.first().expect(rt, "no check");
-    let parameters = check.parameters(alloc).expect(rt, "memory").len();
-    let children = check.children(alloc).expect(rt, "memory").len();
+    let parameters = check.parameters(rt.alloc()).expect(rt, "memory").len();
+    let children = check.children(rt.alloc()).expect(rt, "memory").len();
     (parameters, children)
 }
 
@@ -107,8 +105,8 @@ fn words_that_lack_operands(rt: HostRuntime) {
     let mut stack = Vec::new(alloc);
     let right = steps_answer(alloc, &mut stack);
     let text = "(var.is_empty() && var.contains(a))";
-    let is_printed = prints(&rt, alloc, &stack, text);
-    let found = counts(&rt, alloc, &stack);
+    let is_printed = prints(&rt, &stack, text);
+    let found = counts(&rt, &stack);
     assert!(rt; right);
     assert!(rt; is_printed);
     assert_eq!(rt; found, (0, 0));
@@ -130,13 +128,8 @@ const EACH: [&str; 12] = [
 ];
 
 // Whether the first check has this verdict on the text, and a case of it alone.
-fn is_found(
-    rt: &impl Abort,
-    alloc: Global,
-    stack: &[TextCheck],
-    text: &str,
-    verdict: bool,
-) -> bool {
+fn is_found(rt: &impl Host, stack: &[TextCheck], text: &str, verdict: bool) -> bool {
+    let alloc = rt.alloc();
     let check = stack.first().expect(rt, "no check");
     let item = String::from_str(alloc, text).expect(rt, "memory");
     let found = check.eval(alloc, &item).expect(rt, "memory");
@@ -163,23 +156,23 @@ fn stack_of_each(alloc: Global) -> Result<Vec<TextCheck>, WordFault> {
 }
 
 // Whether the words leave one check, which prints this.
-fn leaves_one(rt: &impl Abort, alloc: Global) -> bool {
-    let stack = stack_of_each(alloc).ok().expect(rt, "a fault");
-    let is_printed = prints(rt, alloc, &stack, ALL);
+fn leaves_one(rt: &impl Host) -> bool {
+    let stack = stack_of_each(rt.alloc()).ok().expect(rt, "a fault");
+    let is_printed = prints(rt, &stack, ALL);
     is_printed && stack.len() == 1
 }
 
 // Whether the check that they leave has this verdict on the text.
-fn each_finds(rt: &impl Abort, alloc: Global, text: &str, verdict: bool) -> bool {
-    let stack = stack_of_each(alloc).ok().expect(rt, "a fault");
-    is_found(rt, alloc, &stack, text, verdict)
+fn each_finds(rt: &impl Host, text: &str, verdict: bool) -> bool {
+    let stack = stack_of_each(rt.alloc()).ok().expect(rt, "a fault");
+    is_found(rt, &stack, text, verdict)
 }
 
 #[test]
 fn each_word(rt: HostRuntime) {
-    assert!(rt; leaves_one(&rt, rt.alloc()));
+    assert!(rt; leaves_one(&rt));
     for (item, verdict) in [("Hello", true), (" Hello", false), ("lo", true)] {
-        assert!(rt; each_finds(&rt, rt.alloc(), item, verdict), "at {item}");
+        assert!(rt; each_finds(&rt, item, verdict), "at {item}");
     }
 }
 
@@ -205,7 +198,7 @@ fn checks_of_20000_levels(rt: HostRuntime) {
 
 #[test]
 fn flags_change_no_fault_of_words(rt: HostRuntime) {
-    assert!(rt; is_shown(&rt, rt.alloc(), WordFault::Operand, "missing operand"));
+    assert!(rt; is_shown(&rt, WordFault::Operand, "missing operand"));
     for fault in [WordFault::Operand, WordFault::Pattern, WordFault::NoMemory] {
         assert!(rt; keeps_text(rt.alloc(), &fault).expect(&rt, "memory"));
     }

@@ -1,91 +1,83 @@
 // A small tree of files, made in a temporary folder.
 use super::render_failures;
+use crate::tests::made::{Host, owned};
 use predicates::check::Expectation;
-use predicates::path::{FileType, PathFault};
+use predicates::path::{FileContentPredicate, FileType, PathFault};
 use predicates::prelude::*;
+use predicates::str::{StartsWithPredicate, Utf8Predicate};
+use std::fs;
 use std::os::unix::fs::symlink;
-use std::process::Abort;
 use std::rt::{Env, Files};
-use std::{fs, io};
 use tests_support::new_folder;
 
-fn fill<R: AllocGlobal + Files>(rt: &R, folder: &str) -> io::Result<()> {
-    let alloc = rt.alloc();
-    fs::write(rt, format!(in alloc; "{folder}/run")?, "#!/bin/sh\n")?;
-    fs::write(rt, format!(in alloc; "{folder}/notes")?, "echo")?;
-    fs::create_dir(rt, format!(in alloc; "{folder}/folder")?)?;
-    symlink(rt, "run", format!(in alloc; "{folder}/link")?)?;
-    symlink(rt, "nothing", format!(in alloc; "{folder}/lost")?)
+// The path of the name in the folder.
+fn path_of(rt: &impl Host, folder: &str, name: &str) -> String {
+    format!(in rt.alloc(); "{folder}/{name}").expect(rt, "memory")
+}
+
+fn fill<R: Host + Files>(rt: &R, folder: &str) {
+    for (name, content) in [("run", "#!/bin/sh\n"), ("notes", "echo")] {
+        fs::write(rt, path_of(rt, folder, name), content).expect(rt, "files");
+    }
+    fs::create_dir(rt, path_of(rt, folder, "folder")).expect(rt, "files");
+    for (name, target) in [("link", "run"), ("lost", "nothing")] {
+        symlink(rt, target, path_of(rt, folder, name)).expect(rt, "files");
+    }
 }
 
 // What stands at the name now, expected to be so; its label is the name.
-fn expect_at<R: Abort + AllocGlobal + Files, P: Drop>(
+fn expect_at<R: Host + Files, P: Drop>(
     rt: &R,
     folder: &str,
     name: &str,
     check: P,
 ) -> Expectation<Snapshot, P> {
-    let alloc = rt.alloc();
-    let path = format!(in alloc; "{folder}/{name}").expect(rt, "memory");
-    let found = Snapshot::take(rt, alloc, path.as_str()).expect(rt, "memory");
-    expect(alloc, name, found, check).expect(rt, "memory")
+    let path = path_of(rt, folder, name);
+    let found = Snapshot::take(rt, rt.alloc(), path.as_str()).expect(rt, "memory");
+    expect(rt.alloc(), name, found, check).expect(rt, "memory")
 }
 
 const NAMES: [&str; 6] = ["run", "notes", "folder", "link", "lost", "gone"];
 
-fn kinds<R: Abort + AllocGlobal + Files>(rt: &R, folder: &str) -> String {
-    let alloc = rt.alloc();
-    let mut expected = Vec::new(alloc);
+fn kinds<R: Host + Files>(rt: &R, folder: &str) -> String {
+    let mut expected = Vec::new(rt.alloc());
     for name in NAMES {
         let file = predicate::path::is_file().follow_links(true);
-        expected
-            .push(expect_at(rt, folder, name, file))
-            .expect(rt, "memory");
+        let at_name = expect_at(rt, folder, name, file);
+        expected.push(at_name).expect(rt, "memory");
     }
-    render_failures(
-        rt,
-        alloc,
-        check_all(alloc, expected.as_slice())
-            .expect(rt, "memory")
-            .as_slice(),
-    )
+    let failures = check_all(rt.alloc(), expected.as_slice()).expect(rt, "memory");
+    render_failures(rt, failures.as_slice())
 }
 
-fn contents<R: Abort + AllocGlobal + Files>(rt: &R, folder: &str) -> String {
-    let alloc = rt.alloc();
-    let mut expected = Vec::new(alloc);
+// The content begins with the mark of a script.
+fn script(rt: &impl Host) -> FileContentPredicate<Utf8Predicate<StartsWithPredicate>> {
+    let mark = predicate::str::starts_with(owned(rt, "#!"));
+    mark.from_utf8().from_file_path()
+}
+
+// A file that the tester may not read.
+fn kept(rt: &impl Host, folder: &str) -> Snapshot {
+    let (path, kind) = (path_of(rt, folder, "kept"), Ok(FileType::File));
+    Snapshot::from_parts(path, kind, kind, Err(PathFault::PermissionDenied))
+}
+
+fn contents<R: Host + Files>(rt: &R, folder: &str) -> String {
+    let mut expected = Vec::new(rt.alloc());
     for name in NAMES {
-        let mark = predicate::str::starts_with(String::from_str(alloc, "#!").expect(rt, "memory"));
-        let script = mark.from_utf8().from_file_path();
-        expected
-            .push(expect_at(rt, folder, name, script))
-            .expect(rt, "memory");
+        let at_name = expect_at(rt, folder, name, script(rt));
+        expected.push(at_name).expect(rt, "memory");
     }
-    // A file that the tester may not read.
-    let kept = Snapshot::from_parts(
-        format!(in alloc; "{folder}/kept").expect(rt, "memory"),
-        Ok(FileType::File),
-        Ok(FileType::File),
-        Err(PathFault::PermissionDenied),
-    );
-    let mark = predicate::str::starts_with(String::from_str(alloc, "#!").expect(rt, "memory"));
-    let script = mark.from_utf8().from_file_path();
-    expected
-        .push(expect(alloc, "kept", kept, script).expect(rt, "memory"))
-        .expect(rt, "memory");
-    render_failures(
-        rt,
-        alloc,
-        check_all(alloc, expected.as_slice())
-            .expect(rt, "memory")
-            .as_slice(),
-    )
+    let of_kept = expect(rt.alloc(), "kept", kept(rt, folder), script(rt)).expect(rt, "memory");
+    expected.push(of_kept).expect(rt, "memory");
+    let failures = check_all(rt.alloc(), expected.as_slice()).expect(rt, "memory");
+    render_failures(rt, failures.as_slice())
 }
 
 // The folder, which is removed by now, and the failures of its kinds and of its contents.
-fn check_folder<R: Abort + AllocGlobal + Env + Files>(rt: &R) -> [String; 3] {
+fn check_folder<R: Host + Env + Files>(rt: &R) -> [String; 3] {
     let folder = new_folder(rt, "predicates_require").expect(rt, "files");
-    fill(rt, folder.as_str()).expect(rt, "files");
+    fill(rt, folder.as_str());
     let found = kinds(rt, folder.as_str());
     let read = contents(rt, folder.as_str());
     fs::remove_dir_all(rt, folder.as_str()).expect(rt, "files");

@@ -1,6 +1,6 @@
 //! The callers, with ample memory.
-use super::{file, has_lines};
-use crate::tests::made::{Host, in_box, owned, vec_of};
+use super::file;
+use crate::tests::made::{Host, has_lines, in_box, owned, vec_of};
 use predicates::path::{FileType, PathFault, Snapshot};
 use predicates::prelude::*;
 use tests_uses::{Around, eval_boxed, find_plain_case, is_copy, no_script};

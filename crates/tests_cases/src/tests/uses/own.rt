@@ -1,6 +1,5 @@
 //! Custom predicates: a leaf, combinators and an adapter.
-use super::has_lines;
-use crate::tests::made::{Host, describes, explains};
+use crate::tests::made::{Host, describes, explains, has_lines};
 use predicates::custom::{Join, Operator, bare_case, detailed_leaf, join_case, leaf, not_case};
 use predicates::iter::InPredicate;
 use predicates::ord::OrdPredicate;

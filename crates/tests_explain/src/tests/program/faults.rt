@@ -1,8 +1,7 @@
 use super::split_words;
+use crate::tests::Host;
 use explain_run::{Exit, run_command_line};
-use std::alloc::Global;
 use std::io::{BufRead, ErrorKind, Write};
-use std::process::Abort;
 use tests_support::{FailingReader, FailingWriter};
 
 const NO_MEMORY: &str = "explain: no memory\n";
@@ -19,16 +18,15 @@ const LINES: [&[u8]; 2] = [b"text|empty", b"between|5|10"];
 
 // Whether the words end with the message and the status of a fault, over this input and output.
 fn is_fault<R: BufRead + Drop, W: Write + Drop>(
-    rt: &impl Abort,
-    alloc: Global,
+    rt: &impl Host,
     line: &[u8],
     mut reader: R,
     mut writer: W,
     message: &str,
 ) -> bool {
-    let words = split_words(rt, alloc, line);
-    let mut messages = Vec::new(alloc);
-    let (end, _) = run_command_line(alloc, &words, &mut reader, &mut writer, &mut messages);
+    let words = split_words(rt, line);
+    let mut messages = Vec::new(rt.alloc());
+    let (end, _) = run_command_line(rt.alloc(), &words, &mut reader, &mut writer, &mut messages);
     end.status() == 3 && messages.as_slice() == message.as_bytes()
 }
 
@@ -40,7 +38,7 @@ fn failing_reads(rt: HostRuntime) {
         for (kind, message) in KINDS {
             for calls in 0..4usize {
                 let reader = FailingReader { bytes, calls, kind };
-                let holds = is_fault(&rt, alloc, line, reader, Vec::new(alloc), message);
+                let holds = is_fault(&rt, line, reader, Vec::new(alloc), message);
                 assert!(rt; holds, "at {line:?}, {message}, {calls}");
             }
         }
@@ -55,7 +53,7 @@ fn failing_writes(rt: HostRuntime) {
         for (kind, message) in KINDS {
             for calls in 0..3usize {
                 let writer = FailingWriter { calls, kind };
-                let holds = is_fault(&rt, alloc, line, reader, writer, message);
+                let holds = is_fault(&rt, line, reader, writer, message);
                 assert!(rt; holds, "at {line:?}, {message}, {calls}");
             }
         }
@@ -63,21 +61,21 @@ fn failing_writes(rt: HostRuntime) {
 }
 
 // How the words end where no message can be written, and how many bytes of output there are.
-fn ended_without_message(rt: &impl Abort, alloc: Global, line: &[u8]) -> ((Exit, bool), usize) {
-    let words = split_words(rt, alloc, line);
+fn ended_without_message(rt: &impl Host, line: &[u8]) -> ((Exit, bool), usize) {
+    let words = split_words(rt, line);
     let mut reader = b"1".as_slice();
-    let mut written = Vec::new(alloc);
+    let mut written = Vec::new(rt.alloc());
     let mut closed = FailingWriter {
         calls: 0,
         kind: ErrorKind::BrokenPipe,
     };
-    let ended = run_command_line(alloc, &words, &mut reader, &mut written, &mut closed);
+    let ended = run_command_line(rt.alloc(), &words, &mut reader, &mut written, &mut closed);
     (ended, written.len())
 }
 
 // A message that can't be written leaves the status as it is.
 #[test]
 fn no_place_for_messages(rt: HostRuntime) {
-    let ended = ended_without_message(&rt, rt.alloc(), b"text|and");
+    let ended = ended_without_message(&rt, b"text|and");
     assert_eq!(rt; ended, ((Exit::Usage, false), 0));
 }

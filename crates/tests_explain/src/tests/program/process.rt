@@ -1,8 +1,8 @@
 //! The whole program, over a process of the test's.
 use super::{BLANK, REFUSED, USAGE};
+use crate::tests::Host;
 use explain_run::run_program;
 use std::alloc::Global;
-use std::process::Abort;
 use tests_support::{Closed, Process};
 
 // The status, standard output and standard error.
@@ -79,7 +79,8 @@ fn is_read_whole(alloc: Global, word: &[u8], item: &[u8]) -> bool {
 }
 
 // Whether a word of this many letters is read whole.
-fn is_long_word_read(rt: &impl Abort, alloc: Global, size: usize) -> bool {
+fn is_long_word_read(rt: &impl Host, size: usize) -> bool {
+    let alloc = rt.alloc();
     let mut item = Vec::new(alloc);
     item.resize(size, b'a').expect(rt, "memory");
     let mut word = Vec::new(alloc);
@@ -92,7 +93,7 @@ fn is_long_word_read(rt: &impl Abort, alloc: Global, size: usize) -> bool {
 #[test]
 fn long_words(rt: HostRuntime) {
     for size in [1usize, 246, 247, 248, 300, 70_000] {
-        assert!(rt; is_long_word_read(&rt, rt.alloc(), size), "at {size}");
+        assert!(rt; is_long_word_read(&rt, size), "at {size}");
     }
 }
 
@@ -104,13 +105,8 @@ fn count_lines(alloc: Global, words: &[&[u8]]) -> (u8, usize, bool) {
 }
 
 // The words of this many checks, joined, and then one word more, if any.
-fn joined_words(
-    rt: &impl Abort,
-    alloc: Global,
-    count: usize,
-    more: &[&'static [u8]],
-) -> Vec<&'static [u8]> {
-    let mut words = Vec::new(alloc);
+fn joined_words(rt: &impl Host, count: usize, more: &[&'static [u8]]) -> Vec<&'static [u8]> {
+    let mut words = Vec::new(rt.alloc());
     words
         .extend_from_slice(&[b"explain".as_slice(), b"text"])
         .expect(rt, "memory");
@@ -125,22 +121,17 @@ fn joined_words(
 }
 
 // What is counted of such words.
-fn count_joined(
-    rt: &impl Abort,
-    alloc: Global,
-    count: usize,
-    more: &[&'static [u8]],
-) -> (u8, usize, bool) {
-    let words = joined_words(rt, alloc, count, more);
-    count_lines(alloc, &words)
+fn count_joined(rt: &impl Host, count: usize, more: &[&'static [u8]]) -> (u8, usize, bool) {
+    let words = joined_words(rt, count, more);
+    count_lines(rt.alloc(), &words)
 }
 
 // Whether all of such words are read, and one that is too many is refused.
-fn are_read(rt: &impl Abort, alloc: Global, count: usize) -> [bool; 2] {
+fn are_read(rt: &impl Host, count: usize) -> [bool; 2] {
     // The label, the nodes that decide, and the product of the last.
     let lines = if count == 1 { 3 } else { 4 };
-    let is_whole = count_joined(rt, alloc, count, &[]) == (0, lines, true);
-    let (status, _, _) = count_joined(rt, alloc, count, &[b"and"]);
+    let is_whole = count_joined(rt, count, &[]) == (0, lines, true);
+    let (status, _, _) = count_joined(rt, count, &[b"and"]);
     [is_whole, status == 2]
 }
 
@@ -149,7 +140,7 @@ fn are_read(rt: &impl Abort, alloc: Global, count: usize) -> [bool; 2] {
 #[test]
 fn many_words(rt: HostRuntime) {
     for count in [1usize, 8, 9, 300] {
-        assert!(rt; are_read(&rt, rt.alloc(), count) == [true; 2], "at {count}");
+        assert!(rt; are_read(&rt, count) == [true; 2], "at {count}");
     }
 }
 

@@ -1,15 +1,15 @@
 //! Large and empty operands.
 use super::split_words;
+use crate::tests::Host;
 use crate::tests::numbers::{SEVEN, is_one, is_total};
 use explain_run::run_command_line;
 use predicates::ord::ge;
-use std::alloc::Global;
-use std::process::Abort;
 use tests_support::repeated;
 
 // What is written for the input, where every line is an item.
-fn answer(rt: &impl Abort, alloc: Global, line: &[u8], input: &[u8]) -> Vec<u8> {
-    let words = split_words(rt, alloc, line);
+fn answer(rt: &impl Host, line: &[u8], input: &[u8]) -> Vec<u8> {
+    let alloc = rt.alloc();
+    let words = split_words(rt, line);
     let mut reader = input;
     let mut written = Vec::new(alloc);
     let mut messages = Vec::new(alloc);
@@ -19,8 +19,8 @@ fn answer(rt: &impl Abort, alloc: Global, line: &[u8], input: &[u8]) -> Vec<u8> 
 }
 
 // The text, this many times.
-fn repeat(rt: &impl Abort, alloc: Global, text: &str, count: usize) -> Vec<u8> {
-    let mut all = Vec::new(alloc);
+fn repeat(rt: &impl Host, text: &str, count: usize) -> Vec<u8> {
+    let mut all = Vec::new(rt.alloc());
     for _ in 0..count {
         all.extend_from_slice(text.as_bytes()).expect(rt, "memory");
     }
@@ -28,41 +28,34 @@ fn repeat(rt: &impl Abort, alloc: Global, text: &str, count: usize) -> Vec<u8> {
 }
 
 // Whether the last of this many lines, of which none is empty, has this label.
-fn ends_at(rt: &impl Abort, alloc: Global, count: usize, last: &str) -> bool {
-    let input = repeat(rt, alloc, "7\n", count);
-    let written = answer(rt, alloc, b"text|empty", &input);
-    let mut end = String::from_str(alloc, last).expect(rt, "memory");
+fn ends_at(rt: &impl Host, count: usize, last: &str) -> bool {
+    let input = repeat(rt, "7\n", count);
+    let written = answer(rt, b"text|empty", &input);
+    let mut end = String::from_str(rt.alloc(), last).expect(rt, "memory");
     end.push_str(": false\nvar.is_empty() = false\n  - var: 7\n")
         .expect(rt, "memory");
     written.ends_with(end.as_bytes())
 }
 
 // Whether the program writes the block of 7 as often as the line stands there.
-fn repeats(rt: &impl Abort, alloc: Global, count: usize) -> bool {
-    let input = repeat(rt, alloc, "7\n", count);
-    let written = answer(rt, alloc, b"between|5|10", &input);
-    let expected = repeat(rt, alloc, SEVEN, count);
+fn repeats(rt: &impl Host, count: usize) -> bool {
+    let input = repeat(rt, "7\n", count);
+    let written = answer(rt, b"between|5|10", &input);
+    let expected = repeat(rt, SEVEN, count);
     written == expected
 }
 
 #[test]
 fn many_lines(rt: HostRuntime) {
-    assert!(rt; repeats(&rt, rt.alloc(), 300));
+    assert!(rt; repeats(&rt, 300));
     for (count, last) in [(300, "line 300"), (70_000, "line 70000")] {
-        assert!(rt; ends_at(&rt, rt.alloc(), count, last), "at {count}");
+        assert!(rt; ends_at(&rt, count, last), "at {count}");
     }
 }
 
 // Whether the program writes, of the words and the input, this and then the input.
-fn echoes(
-    rt: &impl Abort,
-    alloc: Global,
-    words: &[u8],
-    input: &[u8],
-    begin: &str,
-    end: &str,
-) -> bool {
-    let mut expected = Vec::new(alloc);
+fn echoes(rt: &impl Host, words: &[u8], input: &[u8], begin: &str, end: &str) -> bool {
+    let mut expected = Vec::new(rt.alloc());
     expected
         .extend_from_slice(begin.as_bytes())
         .expect(rt, "memory");
@@ -70,44 +63,48 @@ fn echoes(
     expected
         .extend_from_slice(end.as_bytes())
         .expect(rt, "memory");
-    answer(rt, alloc, words, input) == expected
+    answer(rt, words, input) == expected
 }
 
 // Whether 7, behind this many zeros, lies between 5 and 10.
-fn is_seven(rt: &impl Abort, alloc: Global, zeros: usize, end: &str) -> bool {
-    let mut number = repeat(rt, alloc, "0", zeros);
+fn is_seven(rt: &impl Host, zeros: usize, end: &str) -> bool {
+    let mut number = repeat(rt, "0", zeros);
     number
         .extend_from_slice(end.as_bytes())
         .expect(rt, "memory");
-    let written = answer(rt, alloc, b"between|5|10", &number);
+    let written = answer(rt, b"between|5|10", &number);
     written.as_slice() == SEVEN.as_bytes()
 }
 
 // Whether a line of this many letters is shown whole.
-fn is_shown_whole(rt: &impl Abort, alloc: Global, size: usize) -> bool {
+fn is_shown_whole(rt: &impl Host, size: usize) -> bool {
     let begin = "line 1: false\nvar.contains(a) = false\n  - var: ";
-    let mut input = repeat(rt, alloc, "b", size);
+    let mut input = repeat(rt, "b", size);
     input.push(b'\n').expect(rt, "memory");
-    echoes(rt, alloc, b"text|contains=a", &input, begin, "")
+    echoes(rt, b"text|contains=a", &input, begin, "")
 }
 
 // Lines of 0 to 300 bytes, so that what is written for them has each length as well.
 #[test]
 fn lines_of_each_length(rt: HostRuntime) {
     for size in 0..301usize {
-        assert!(rt; is_shown_whole(&rt, rt.alloc(), size), "at {size}");
-        assert!(rt; is_seven(&rt, rt.alloc(), size, "7\r\n"), "at {size}");
+        assert!(rt; is_shown_whole(&rt, size), "at {size}");
+        assert!(rt; is_seven(&rt, size, "7\r\n"), "at {size}");
     }
 }
 
 // Whether both blocks stand under a label of this size.
-fn is_labelled(rt: &impl Abort, alloc: Global, size: u32) -> bool {
-    let label = repeated(alloc, "b", size, "").expect(rt, "memory");
-    let block = repeated(alloc, "b", size, ": true\nvar >= 5 = true\n  - var: 7\n").expect(
-        rt, "memory",
-    );
-    let one = is_one(rt, alloc, ge(5i64), &label, 7, &block);
-    let total = is_total(rt, alloc, ge(5i64), &label, 7, &block);
+fn is_labelled(rt: &impl Host, size: u32) -> bool {
+    let label = repeated(rt.alloc(), "b", size, "").expect(rt, "memory");
+    let block = repeated(
+        rt.alloc(),
+        "b",
+        size,
+        ": true\nvar >= 5 = true\n  - var: 7\n",
+    )
+    .expect(rt, "memory");
+    let one = is_one(rt, ge(5i64), &label, 7, &block);
+    let total = is_total(rt, ge(5i64), &label, 7, &block);
     one && total
 }
 
@@ -115,6 +112,6 @@ fn is_labelled(rt: &impl Abort, alloc: Global, size: u32) -> bool {
 #[test]
 fn labels_of_any_length(rt: HostRuntime) {
     for size in [0u32, 1, 255, 256, 300, 70_000] {
-        assert!(rt; is_labelled(&rt, rt.alloc(), size), "at {size}");
+        assert!(rt; is_labelled(&rt, size), "at {size}");
     }
 }
