@@ -139,13 +139,13 @@ const FIRST_ERROR: Report = Report::GitHub { all: false };
 const ALL_ERRORS: Report = Report::GitHub { all: true };
 
 // A report, what is kept of each rule, how much may be written, and how often each rule is asked:
-// for its verdict, and once more for its case or its change.
+// at most once for its verdict, and once more where its case or its change is shown.
 const RUNS: [(Report, Kept, Option<u64>, [u16; 3]); 13] = [
     (Report::First, Kept::Nothing, None, [1, 2, 0]),
     (Report::First, Kept::Nothing, Some(0), [1, 1, 0]),
-    (Report::First, Kept::Counts, None, [2, 3, 1]),
+    (Report::First, Kept::Counts, None, [1, 2, 1]),
     (Report::All, Kept::Nothing, None, [1, 2, 2]),
-    (Report::All, Kept::Counts, None, [2, 3, 3]),
+    (Report::All, Kept::Counts, None, [1, 2, 2]),
     (Report::Change, Kept::Nothing, None, [1, 2, 2]),
     (FIRST_OBJECT, Kept::Nothing, None, [1, 2, 0]),
     (ALL_OBJECTS, Kept::Nothing, None, [1, 2, 2]),
@@ -153,7 +153,7 @@ const RUNS: [(Report, Kept, Option<u64>, [u16; 3]); 13] = [
     (ALL_ERRORS, Kept::Nothing, None, [1, 2, 2]),
     (Report::Lines(true), Kept::Nothing, None, [1, 1, 0]),
     (Report::Lines(false), Kept::Nothing, None, [1, 1, 0]),
-    (Report::JUnit, Kept::Blocks, None, [3, 4, 3]),
+    (Report::JUnit, Kept::Blocks, None, [1, 2, 2]),
 ];
 
 // A run asks each rule so often.
@@ -165,7 +165,7 @@ fn count_rules<R: Abort + AllocGlobal + Print>(
     times: [u16; 3],
 ) {
     let alloc = rt.alloc();
-    let settings = Settings { report, id: None };
+    let settings = Settings::new(report, None);
     let plain = rules_of(rt, alloc, None);
     for (place, times) in times.into_iter().enumerate() {
         let counted = rules_of(rt, alloc, Some(place));
