@@ -1,5 +1,5 @@
 -- Lines, and the rules that they break, are counted one after the other.
-use Rattle.std.proofs.Common.{◌≡◌, ℕ, suc, ◌+◌, ◌≤◌, ◌||◌, Bool, true, false, not, List, [], ◌∷◌, ◌++◌, length, get_or, Option, Some, None, refl, sym, ◌∙◌, ap, add_assoc, add-zero, length-append, if◌then◌else◌}
+use Rattle.std.proofs.Common.{◌≡◌, ℕ, suc, ◌+◌, ◌<◌, ◌≤◌, ◌||◌, Bool, true, false, not, List, [], ◌∷◌, ◌++◌, length, map, take, get_or, Option, Some, None, refl, sym, ◌∙◌, ap, subst, arith, add_assoc, add-zero, length-append, if◌then◌else◌}
 use Rattle.std.specs.Prelude.{filter, is_some, option_map, ◌&&◌, ◌==◌, cond}
 use Rattle.std.proofs.lemmas.Bool.Decides.{nat_tests}
 use Rattle.std.proofs.lemmas.List.{set_past}
@@ -8,12 +8,14 @@ use Rattle.serde_json.specs.Data.{Data}
 use Rattle.vet_checks.specs.declared.rule_check.RuleCheck.{RuleCheck}
 use Rattle.vet_run.specs.Counting.{is_false, breaks, one_if, CountsOne, number_of, AreCounted, breaks_one, one_counted, all_counted}
 use Rattle.vet_run.specs.InputLines.{record_taken, is_blank_taken, is_unreadable}
-use Rattle.vet_run.specs.Judgements.{Placed, broken_from, counted_at, counted_each, asks_all}
+use Rattle.vet_run.specs.Judgements.{Placed, placed, broken_from, counted_at, counted_each, asks_all}
 use Rattle.predicates_core.specs.Formula.{truth}
 use Rattle.vet_run.specs.Records.{keeps, formula_on, shown}
 use Rattle.vet_run.specs.Settings.{shows_all}
 use Rattle.vet_run.specs.declared.counts.Counts.{Counts}
+use Rattle.vet_run.specs.declared.judgement.Broken.{Broken}
 use Rattle.vet_run.specs.declared.settings.Report.{Report}
+use Rattle.vet_run.proofs.Judging.{placed_more}
 
 -- one more line counts where it passes the test
 filter_more : (p : Option (List ℕ) → Bool) (lines : List (Option (List ℕ))) (l : Option (List ℕ)) (b : Bool) → p l ≡ b
@@ -86,26 +88,38 @@ module _ (d : Data) where
   -- rules that stand one place further on count one place further on
   shifted : (k : ℕ) (us : List RuleCheck) (n : ℕ) (ns : List ℕ) → counted_each (broken_from (suc k) us d) (n ∷ ns) ≡ n ∷ counted_each (broken_from k us d) ns
   shifted k [] n ns = refl
-  shifted k (u ∷ us) n ns = one (truth (formula_on d u))
+  shifted k (u ∷ us) n ns =
+      let same : suc (k + 1) ≡ suc k + 1 = omega arith in
+      let further : (ms : List ℕ) → counted_each (broken_from (suc k + 1) us d) (n ∷ ms) ≡ n ∷ counted_each (broken_from (k + 1) us d) ms =
+      λ ms. subst (λ i. counted_each (broken_from i us d) (n ∷ ms) ≡ n ∷ counted_each (broken_from (k + 1) us d) ms) same (shifted (k + 1) us n ms) in
+      one (truth (formula_on d u)) (further ns) (further (counted_at k ns))
     where
-      one : (b : Bool) → counted_each (cond b (broken_from (suc k + 1) us d) ((suc k, u) ∷ broken_from (suc k + 1) us d)) (n ∷ ns)
+      one : (b : Bool) → counted_each (broken_from (suc k + 1) us d) (n ∷ ns) ≡ n ∷ counted_each (broken_from (k + 1) us d) ns
+          → counted_each (broken_from (suc k + 1) us d) (n ∷ counted_at k ns) ≡ n ∷ counted_each (broken_from (k + 1) us d) (counted_at k ns)
+          → counted_each (cond b (broken_from (suc k + 1) us d) ((suc k, u) ∷ broken_from (suc k + 1) us d)) (n ∷ ns)
           ≡ n ∷ counted_each (cond b (broken_from (k + 1) us d) ((k, u) ∷ broken_from (k + 1) us d)) ns
-      one true = shifted (k + 1) us n ns
-      one false = shifted (k + 1) us n (counted_at k ns)
+      one true e f = e
+      one false e f = f
 
   each_counted : (us : List RuleCheck) (ns : List ℕ) → counted_each (broken_from 0 us d) ns ≡ one_counted us (Some d) ns
   each_counted [] ns = sym (none_of_no_rules (Some d) ns)
   each_counted (u ∷ us) [] = none_without_places (broken_from 0 (u ∷ us) d)
-  each_counted (u ∷ us) (n ∷ ns) = one (truth (formula_on d u))
+  each_counted (u ∷ us) (n ∷ ns) = one (truth (formula_on d u)) (each_counted us ns)
     where
-      one : (b : Bool) → counted_each (cond b (broken_from 1 us d) ((0, u) ∷ broken_from 1 us d)) (n ∷ ns) ≡ (n + one_if (not b)) ∷ one_counted us (Some d) ns
-      one true = shifted 0 us n ns ∙ ap (λ z. z ∷ counted_each (broken_from 0 us d) ns) (sym (add-zero n)) ∙ ap (λ z. (n + 0) ∷ z) (each_counted us ns)
-      one false = shifted 0 us (n + 1) ns ∙ ap (λ z. (n + 1) ∷ z) (each_counted us ns)
+      one : (b : Bool) → counted_each (broken_from 0 us d) ns ≡ one_counted us (Some d) ns → counted_each (cond b (broken_from 1 us d) ((0, u) ∷ broken_from 1 us d)) (n ∷ ns) ≡ (n + one_if (not b)) ∷ one_counted us (Some d) ns
+      one true e = shifted 0 us n ns ∙ ap (λ z. z ∷ counted_each (broken_from 0 us d) ns) (sym (add-zero n)) ∙ ap (λ z. (n + 0) ∷ z) e
+      one false e = shifted 0 us (n + 1) ns ∙ ap (λ z. (n + 1) ∷ z) e
 
 -- one rule more is counted
 pub each_more : (bs : List Placed) (b : Placed) (ns : List ℕ) → counted_each (bs ++ b ∷ []) ns ≡ counted_at b.0 (counted_each bs ns)
 each_more [] b ns = refl
 each_more (x ∷ bs) b ns = each_more bs b (counted_at x.0 ns)
+
+pub rule_counted : (bs : List Broken) (k : ℕ) (b : Broken) (ns old new : List ℕ) → k < length bs → b ≡ get_or bs k b
+    → old ≡ counted_each (map placed (take k bs)) ns → new ≡ counted_at b.place old → new ≡ counted_each (map placed (take (k + 1) bs)) ns
+rule_counted bs k b ns old new within is before e =
+    e ∙ ap (counted_at b.place) before ∙ sym (each_more (map placed (take k bs)) (placed b) ns)
+    ∙ ap (λ z. counted_each z ns) (sym (placed_more bs k b within is))
 
 -- at a place that is none nothing is counted
 pub past_counted : (place : ℕ) (ns : List ℕ) → length ns ≤ place → ns ≡ counted_at place ns

@@ -1,5 +1,5 @@
 -- The block of the first record that breaks each rule, rule after rule and line after line.
-use Rattle.std.proofs.Common.{◌≡◌, ◌≢◌, ℕ, zero, suc, ◌+◌, ◌<◌, ◌≤◌, ◌||◌, Bool, true, false, not, List, [], ◌∷◌, ◌++◌, Option, None, length, map, get_or, set, refl, sym, ap, ◌∙◌, subst, arith, length-set, ⊎_elim}
+use Rattle.std.proofs.Common.{◌≡◌, ◌≢◌, ℕ, zero, suc, ◌+◌, ◌<◌, ◌≤◌, ◌||◌, Bool, true, false, not, List, [], ◌∷◌, ◌++◌, Option, None, length, map, take, get_or, set, refl, sym, ap, ◌∙◌, subst, arith, length-set, ⊎_elim}
 use Rattle.std.specs.Prelude.{◌==◌, ◌&&◌, cond}
 use Rattle.std.proofs.lemmas.Bool.Decides.{nat_tests}
 use Rattle.std.proofs.lemmas.List.{get_or-map, get_or-set_same, get_or-set_other, length-map, map-set}
@@ -9,13 +9,15 @@ use Rattle.predicates_core.specs.Shows.{Explains}
 use Rattle.vet_checks.specs.declared.rule_check.RuleCheck.{RuleCheck}
 use Rattle.vet_run.specs.FirstBlocks.{TakesFirst, TakesFirsts, TakesOn, AreFirsts, block_at}
 use Rattle.vet_run.specs.InputLines.{record_taken}
-use Rattle.vet_run.specs.Judgements.{Placed, broken_from, asks_all, TakesAt, TakesEach}
+use Rattle.vet_run.specs.Judgements.{Placed, placed, broken_from, asks_all, TakesAt, TakesEach}
 use Rattle.vet_run.specs.Records.{AddsShown, IsBlockOf, formula_on, shown}
 use Rattle.vet_run.specs.Settings.{shows_all}
 use Rattle.vet_run.specs.declared.job.Job.{Job}
+use Rattle.vet_run.specs.declared.judgement.Broken.{Broken}
 use Rattle.vet_run.specs.declared.record.Shown.{Shown}
 use Rattle.vet_run.specs.declared.settings.Report.{Report}
 use Rattle.vet_run.proofs.Counted.{or_true}
+use Rattle.vet_run.proofs.Judging.{placed_more}
 
 module _ (j : Job) (number : ℕ) (d : Data) where
   -- ---- one rule
@@ -64,7 +66,7 @@ module _ (j : Job) (number : ℕ) (d : Data) where
       → TakesFirst j b.1 number d (f x) (f s) → TakesAt j number d b (map f old) (map f new)
   is_placed f b old new x s within was e taken =
       let now : map f new ≡ set (map f old) b.0 (f s) = ap (map f) e ∙ map-set f old b.0 s in
-      let before : f x ≡ block_at (map f old) b.0 = ap f was ∙ get_or-map f old b.0 x [] within in
+      let before : f x ≡ block_at (map f old) b.0 = ap f was ∙ sym (get_or-map f old b.0 x [] within) in
       let after : f s ≡ block_at (map f new) b.0 =
       sym (ap (λ (z : List (List ℕ)). block_at z b.0) now ∙ get_or-set_same (map f old) b.0 (f s) [] (omega (arith, within, length-map old f))) in
       record {
@@ -73,10 +75,15 @@ module _ (j : Job) (number : ℕ) (d : Data) where
         others = λ k apart. ap (λ (z : List (List ℕ)). block_at z k) now ∙ get_or-set_other (map f old) b.0 k (f s) [] apart;
       }
 
-  pub each_taken : (bs : List Placed) (b : Placed) (old now new : List (List ℕ)) → TakesEach j number d bs old now → TakesAt j number d b now new
+  each_taken : (bs : List Placed) (b : Placed) (old now new : List (List ℕ)) → TakesEach j number d bs old now → TakesAt j number d b now new
       → TakesEach j number d (bs ++ b ∷ []) old new
   each_taken [] b old now new h one = (new, subst (λ z. TakesAt j number d b z new) h one, refl)
   each_taken (x ∷ bs) b old now new h one = (h.0, h.1, each_taken bs b h.0 now new h.2 one)
+
+  pub one_taken : (bs : List Broken) (k : ℕ) (b : Broken) (old now new : List (List ℕ)) → k < length bs → b ≡ get_or bs k b
+      → TakesEach j number d (map placed (take k bs)) old now → TakesAt j number d (placed b) now new → TakesEach j number d (map placed (take (k + 1) bs)) old new
+  one_taken bs k b old now new within is h one =
+      subst (λ z. TakesEach j number d z old new) (sym (placed_more bs k b within is)) (each_taken (map placed (take k bs)) (placed b) old now new h one)
 
   -- of the rules from this place on each has taken the record, and those before it have what they had
   record AreTaken (place : ℕ) (us : List RuleCheck) (old new : List (List ℕ)) : Type 0 where
@@ -115,17 +122,24 @@ module _ (j : Job) (number : ℕ) (d : Data) where
     before = λ k less. ap (λ (z : List (List ℕ)). block_at z k) h;
     each = λ k r within ruled is. absurd (omega (arith, ruled));
   }
-  from_taken place (u ∷ us) old new h = one (truth (formula_on d u)) refl h
+  from_taken place (u ∷ us) old new h = one (truth (formula_on d u)) refl (λ now others. from_taken (place + 1) us now new others) h
     where
-      one : (b : Bool) → truth (formula_on d u) ≡ b → TakesEach j number d (cond b (broken_from (place + 1) us d) ((place, u) ∷ broken_from (place + 1) us d)) old new
+      one : (b : Bool) → truth (formula_on d u) ≡ b
+          → ((now : List (List ℕ)) → TakesEach j number d (broken_from (place + 1) us d) now new → AreTaken (place + 1) us now new)
+          → TakesEach j number d (cond b (broken_from (place + 1) us d) ((place, u) ∷ broken_from (place + 1) us d)) old new
           → AreTaken place (u ∷ us) old new
-      one true e h = head_taken place u us old old new refl (λ k apart. refl) (λ within. kept_has u (block_at old place) e) (from_taken (place + 1) us old new h)
-      one false e h = head_taken place u us old h.0 new h.1.long (λ k. h.1.others k) (λ within. h.1.here within) (from_taken (place + 1) us h.0 new h.2)
+      one true e others h = head_taken place u us old old new refl (λ k apart. refl) (λ within. kept_has u (block_at old place) e) (others old h)
+      one false e others h = head_taken place u us old h.0 new h.1.long (λ k. h.1.others k) (λ within. h.1.here within) (others h.0 h.2)
 
   all_taken : (old new : List (List ℕ)) → TakesEach j number d (broken_from 0 j.rules.now d) old new → TakesFirsts j number d old new
   all_taken old new h =
       let t = from_taken 0 j.rules.now old new h in
-      record { long = t.long; each = λ k r within ruled is. t.each k r within ruled is }
+      record {
+        long = t.long;
+        each = λ k r within ruled is.
+            let same : 0 + k ≡ k = omega arith in
+            subst (λ n. TakesFirst j r number d (block_at old n) (block_at new n)) same (t.each k r (omega (arith, within)) ruled is);
+      }
 
   same_length : (bs : List Placed) (old new : List (List ℕ)) → TakesEach j number d bs old new → length new ≡ length old
   same_length [] old new h = ap length h

@@ -1,8 +1,8 @@
 -- Which rules a record breaks, one after the other.
-use Rattle.std.proofs.Common.{◌≡◌, ℕ, suc, ◌+◌, ◌<◌, ◌≤◌, Bool, true, false, List, [], ◌∷◌, ◌++◌, length, map, take, drop, get_or, refl, sym, ap, ◌∙◌, subst, append-nil, append_assoc, add-one, drop-cons}
+use Rattle.std.proofs.Common.{◌≡◌, ℕ, suc, ◌+◌, ◌<◌, ◌≤◌, Bool, true, false, List, [], ◌∷◌, ◌++◌, length, map, take, drop, get_or, refl, sym, ap, ◌∙◌, arith, append-nil, append_assoc, add-one, drop-cons}
 use Rattle.std.specs.Prelude.{not, ◌&&◌, ◌||◌, ◌==◌, cond}
 use Rattle.std.proofs.lemmas.Bool.Decides.{nat_tests}
-use Rattle.std.proofs.lemmas.List.{drop_all, length-map, take-map}
+use Rattle.std.proofs.lemmas.List.{drop_all, length-map, map-append, take-map, take_more}
 use Rattle.serde_json.specs.Data.{Data}
 use Rattle.predicates_core.specs.Formula.{truth}
 use Rattle.vet_checks.specs.declared.rule_check.RuleCheck.{RuleCheck}
@@ -35,6 +35,10 @@ none_of_shown : {X : Type 0} (all : Bool) (xs : List X) → (length (shown all x
 none_of_shown true xs = refl
 none_of_shown false [] = refl
 none_of_shown false (x ∷ xs) = suc_not_zero 0 ∙ sym (suc_not_zero (length xs))
+
+-- one rule more
+pub placed_more : (bs : List Broken) (k : ℕ) (b : Broken) → k < length bs → b ≡ get_or bs k b → map placed (take (k + 1) bs) ≡ map placed (take k bs) ++ placed b ∷ []
+placed_more bs k b within is = ap (map placed) (take_more bs k b within ∙ ap (λ z. take k bs ++ z ∷ []) (sym is)) ∙ map-append placed (take k bs) (b ∷ [])
 
 module _ (d : Data) where
   drop_is : (us : List RuleCheck) (k : ℕ) (u : RuleCheck) → k < length us → u ≡ get_or us k u → drop k us ≡ u ∷ drop (k + 1) us

@@ -1,6 +1,6 @@
 -- Which rules a record breaks.
 use Rattle.std.specs.Prelude.{◌≡◌, ◌≢◌, ◌==◌, ◌<◌, ◌&&◌, ◌||◌, ℕ, ◌+◌, List, [], ◌∷◌, ◌++◌, Bool, true, false, not}
-use Rattle.std.specs.Prelude.{cond, length, map, slice_index, slice_set}
+use Rattle.std.specs.Prelude.{cond, length, slice_index, slice_set}
 use Rattle.serde_json.specs.Data.{Data}
 use Rattle.predicates_core.specs.Formula.{truth, HasTruth}
 use Rattle.predicates_core.specs.Leaves.{IsExactly}

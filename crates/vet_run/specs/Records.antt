@@ -1,7 +1,7 @@
 -- What is written for one record.
 use Rattle.std.specs.Prelude.{◌≡◌, ◌⊎◌, ℕ, List, [], ◌∷◌, ◌++◌, ◌==◌, Bool, true, false, ◌&&◌}
-use Rattle.std.specs.Prelude.{Option, Some, None, cond, take, length, codes, flat_map}
-use Rattle.std.specs.List.{All, AllZip}
+use Rattle.std.specs.Prelude.{⊤, Option, Some, cond, take, length, codes, flat_map}
+use Rattle.std.specs.List.{AllZip}
 use mathlib.Core.Bool.{beq}
 use Rattle.serde_json.specs.Data.{Data}
 use Rattle.predicates_core.specs.Formula.{Formula, truth, HasTruth}
@@ -59,7 +59,8 @@ AddsShown E d r old new =
 
 -- the record breaks each of the rules
 abbrev pub AreBroken : Data → List RuleCheck → Type 0
-AreBroken d rs = All (λ r. truth (formula_on d r) ≡ false) rs
+AreBroken d [] = ⊤
+AreBroken d (r ∷ rs) = (truth (formula_on d r) ≡ false) × AreBroken d rs
 
 -- all of them, or the first
 abbrev pub shown : {X : Type 0} → Bool → List X → List X

@@ -85,7 +85,8 @@ fn push_broken(
         opening: &opening,
         style: &job.settings.style,
     };
-    push_errors(alloc, lines, &position, cases.as_slice())
+    push_errors(alloc, lines, &position, cases.as_slice())?;
+    Ok(())
 }
 
 /// Writes the lines of the rules that the record breaks, of all or of the first.

@@ -49,7 +49,8 @@ fn take_at(
     if broken.place >= blocks.len() {
         return Ok(());
     }
-    take_first(alloc, job, broken.rule, record, &mut blocks[broken.place])
+    take_first(alloc, job, broken.rule, record, &mut blocks[broken.place])?;
+    Ok(())
 }
 
 /// Writes the block of each of the rules, which the record breaks, that has none yet.

@@ -191,7 +191,8 @@ pub(crate) fn write_broken(
 {
     let alloc = workspace.alloc;
     let cases = cases_of(alloc, shown(all, broken), record.value)?;
-    write_block(alloc, job, record, &mut workspace.text, cases.as_slice())
+    write_block(alloc, job, record, &mut workspace.text, cases.as_slice())?;
+    Ok(())
 }
 
 /// Writes the block of what would have to change in the rules that the record breaks, in place of
@@ -208,7 +209,8 @@ pub(crate) fn write_changes(
 {
     let alloc = workspace.alloc;
     let cases = changes_of(alloc, broken, record.value)?;
-    write_block(alloc, job, record, &mut workspace.text, cases.as_slice())
+    write_block(alloc, job, record, &mut workspace.text, cases.as_slice())?;
+    Ok(())
 }
 
 // Writes the object, or nothing where it has no case and the failed alone are wanted, in place of
@@ -253,5 +255,6 @@ pub(crate) fn write_json(
         all,
         cases: cases.as_slice(),
     };
-    write_wanted(alloc, &mut workspace.text, failed, &object)
+    write_wanted(alloc, &mut workspace.text, failed, &object)?;
+    Ok(())
 }

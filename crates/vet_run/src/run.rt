@@ -116,7 +116,10 @@ fn tell_record<W: Write>(
             return tell_errors(workspace.alloc, job, all, broken, record, output);
         }
         Report::JUnit => return Ok(()),
-        Report::Lines(wanted) => return tell_wanted(wanted, is_none(broken), record, output),
+        Report::Lines(wanted) => {
+            tell_wanted(wanted, is_none(broken), record, output)?;
+            return Ok(());
+        }
     }
     write_bytes(output, workspace.text.as_bytes())
 }
