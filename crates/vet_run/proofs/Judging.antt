@@ -1,5 +1,5 @@
 -- Which rules a record breaks, one after the other.
-use Rattle.std.proofs.Common.{◌≡◌, ℕ, suc, ◌+◌, ◌<◌, ◌≤◌, Bool, true, false, List, [], ◌∷◌, ◌++◌, length, map, take, drop, get_or, refl, sym, ap, ◌∙◌, arith, append-nil, append_assoc, add-one, drop-cons}
+use Rattle.std.proofs.Common.{◌≡◌, ℕ, suc, ◌+◌, ◌<◌, ◌≤◌, Bool, true, false, List, [], ◌∷◌, ◌++◌, length, map, take, drop, get_or, refl, sym, ap, ◌∙◌, subst, arith, append-nil, append_assoc, add-one, drop-cons}
 use Rattle.std.specs.Prelude.{not, ◌&&◌, ◌||◌, ◌==◌, cond}
 use Rattle.std.proofs.lemmas.Bool.Decides.{nat_tests}
 use Rattle.std.proofs.lemmas.List.{drop_all, length-map, map-append, take-map, take_more}
@@ -148,11 +148,11 @@ module _ (d : Data) where
 
   all_broken : (us : List RuleCheck) → AreBroken d (broken us d)
   all_broken [] = tt
-  all_broken (u ∷ us) = one (truth (formula_on d u)) refl
+  all_broken (u ∷ us) = one (truth (formula_on d u)) refl (all_broken us)
     where
-      one : (b : Bool) → truth (formula_on d u) ≡ b → AreBroken d (cond b (broken us d) (u ∷ broken us d))
-      one true e = all_broken us
-      one false e = (e, all_broken us)
+      one : (b : Bool) → truth (formula_on d u) ≡ b → AreBroken d (broken us d) → AreBroken d (cond b (broken us d) (u ∷ broken us d))
+      one true e h = h
+      one false e h = (e, h)
 
   shown_broken : (all : Bool) (us : List RuleCheck) → AreBroken d us → AreBroken d (shown all us)
   shown_broken true us h = h

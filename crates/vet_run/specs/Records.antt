@@ -72,7 +72,7 @@ refused_text false = []
 refused_text true = codes "  no memory to show why\n"
 
 -- the lines of what is shown of a rule
-abbrev pub shown_lines : Style → Shown → List ℕ
+unfoldable pub shown_lines : Style → Shown → List ℕ
 shown_lines style s = styled_lines style s.case ++ refused_text s.refused
 
 -- the line with what heads it, and the lines of each case

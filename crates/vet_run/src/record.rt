@@ -7,7 +7,7 @@ ghost use Rattle.predicates_core.specs.Shows.{Explains, IsNode};
 ghost use Rattle.vet_checks.specs.RuleChecks.{name_of};
 ghost use Rattle.serde_json.specs.View.{view};
 ghost use Rattle.vet_run.specs.Judgements.{IsJudged, placed, rule_of};
-ghost use Rattle.vet_run.specs.Records.{AddsShown, AreBroken, IsShown, block, shown_lines};
+ghost use Rattle.vet_run.specs.Records.{AddsShown, AreBroken, IsShown, block, refused_text, shown_lines};
 ghost use Rattle.vet_run.specs.Records.{IsBlock, IsBlockOf, IsChangeBlock, IsObject};
 ghost use Rattle.vet_run.specs.Records.{wanted_text};
 
@@ -119,15 +119,25 @@ fn changes_of(alloc: Global, rules: &[Broken<'_>], value: &Value) -> Result<Vec<
     Ok(cases)
 }
 
+// Writes that memory was refused for a case, where it was.
+fn write_refused(text: &mut String, refused: bool) -> Result<(), AllocError>
+    ensures { OnOk result (string_bytes text.new ≡ string_bytes text.old ++ refused_text refused) }
+{
+    if refused {
+        text.push_str("  no memory to show why\n")
+    } else {
+        Ok(())
+    }
+}
+
 /// Writes the lines of what is shown of a rule behind the text.
+#[tactic(auto, unfolding(crate::specs::Records::shown_lines))]
 pub(crate) fn write_shown(text: &mut String, style: &Style, shown: &Shown) -> Result<(), AllocError>
     ensures { OnOk result
         (string_bytes text.new ≡ string_bytes text.old ++ shown_lines style.now shown.now) }
 {
     render_styled_onto(text, style, &shown.case)?;
-    if shown.refused {
-        text.push_str("  no memory to show why\n")?;
-    }
+    write_refused(text, shown.refused)?;
     Ok(())
 }
 
