@@ -1,21 +1,20 @@
 -- The block of the first record that breaks each rule, rule after rule and line after line.
-use Rattle.std.proofs.Common.{◌≡◌, ◌≢◌, ℕ, zero, suc, ◌+◌, ◌<◌, ◌≤◌, ◌||◌, Bool, true, false, not, List, [], ◌∷◌, ◌++◌, Option, None, length, map, take, get_or, set, refl, sym, ap, ◌∙◌, subst, arith, length-set}
+use Rattle.std.proofs.Common.{◌≡◌, ◌≢◌, ℕ, zero, suc, ◌+◌, ◌<◌, ◌≤◌, ◌||◌, Bool, true, false, not, List, [], ◌∷◌, ◌++◌, Option, None, length, map, take, get_or, set, refl, sym, ap, ◌∙◌, subst, arith, length-set, ⊎_elim}
 use Rattle.std.specs.Prelude.{◌==◌, ◌&&◌, cond}
 use Rattle.std.proofs.lemmas.Bool.Decides.{nat_tests}
 use Rattle.std.proofs.lemmas.List.{get_or-map, get_or-set_same, get_or-set_other, length-map, map-set}
 use Rattle.serde_json.specs.Data.{Data}
-use Rattle.predicates_core.specs.Formula.{truth, HasTruth}
-use Rattle.predicates_core.specs.Leaves.{IsExactly}
-use Rattle.predicates_core.specs.Tree.{Tree}
-use Rattle.predicates_core.specs.Describe.{CaseNode}
+use Rattle.predicates_core.specs.Formula.{truth}
+use Rattle.predicates_core.specs.Shows.{Explains}
 use Rattle.vet_checks.specs.declared.rule_check.RuleCheck.{RuleCheck}
 use Rattle.vet_run.specs.FirstBlocks.{TakesFirst, TakesFirsts, TakesOn, AreFirsts, block_at}
 use Rattle.vet_run.specs.InputLines.{record_taken}
 use Rattle.vet_run.specs.Judgements.{Placed, placed, broken_from, asks_all, TakesAt, TakesEach}
-use Rattle.vet_run.specs.Records.{AddsCase, IsBlockOf, formula_on, shown}
+use Rattle.vet_run.specs.Records.{AddsShown, IsBlockOf, formula_on, shown}
 use Rattle.vet_run.specs.Settings.{shows_all}
 use Rattle.vet_run.specs.declared.job.Job.{Job}
 use Rattle.vet_run.specs.declared.judgement.Broken.{Broken}
+use Rattle.vet_run.specs.declared.record.Shown.{Shown}
 use Rattle.vet_run.specs.declared.settings.Report.{Report}
 use Rattle.vet_run.proofs.Counted.{or_true}
 use Rattle.vet_run.proofs.Judging.{placed_more}
@@ -30,13 +29,6 @@ module _ (j : Job) (number : ℕ) (d : Data) where
     breaks = λ none h. let apart : true ≡ false = ap (λ (z : List ℕ). length z == 0) (sym none) ∙ some in absurd (cc);
   }
 
-  pub takes_kept : (r : RuleCheck) (old : List ℕ) → HasTruth (IsExactly (formula_on d r)) true → TakesFirst j r number d old old
-  takes_kept r old held = record {
-    has = λ h. refl;
-    keeps = λ h. refl;
-    breaks = λ none h. let apart : true ≡ false = sym (held.at (formula_on d r) (record { is = refl })) ∙ h in absurd (cc);
-  }
-
   kept_has : (r : RuleCheck) (old : List ℕ) → truth (formula_on d r) ≡ true → TakesFirst j r number d old old
   kept_has r old held = record {
     has = λ h. refl;
@@ -44,19 +36,21 @@ module _ (j : Job) (number : ℕ) (d : Data) where
     breaks = λ none h. let apart : true ≡ false = sym held ∙ h in absurd (cc);
   }
 
-  pub takes_broken : (r : RuleCheck) (old new : List ℕ) (before cases : List (Tree CaseNode)) (added : Bool)
-      → AddsCase d r before cases added → added ≡ true → before ≡ [] → (length old == 0) ≡ true
+  pub takes_broken : (r : RuleCheck) (old new : List ℕ) (before cases : List Shown)
+      → truth (formula_on d r) ≡ false → AddsShown Explains d r before cases → before ≡ [] → (length old == 0) ≡ true
       → IsBlockOf j number d cases new → TakesFirst j r number d old new
-  takes_broken r old new before cases false h not_added none empty is = absurd (let apart : false ≡ true = not_added in cc)
-  takes_broken r old new before cases true h is_added none empty is = record {
-    has = λ some. absurd (let short : length old ≡ 0 = grind (arith, nat_tests, empty) in omega (arith, short, some));
-    keeps = λ held. absurd (let apart : true ≡ false = sym held ∙ h.2.truth.at (formula_on d r) (record { is = refl }) in cc);
-    breaks = λ nothing broken. record {
-      case = h.0;
-      explains = h.2.explains (formula_on d r) (record { is = refl });
-      is = subst (λ cs. IsBlockOf j number d cs new) (h.1 ∙ ap (λ cs. cs ++ h.0 ∷ []) none) is;
-    };
-  }
+  takes_broken r old new before cases broken h none empty is = ⊎_elim
+      (λ a. record {
+        has = λ some. absurd (let short : length old ≡ 0 = grind (arith, nat_tests, empty) in omega (arith, short, some));
+        keeps = λ held. absurd (let apart : true ≡ false = sym held ∙ broken in cc);
+        breaks = λ nothing fails. record {
+          case = a.0;
+          explains = a.2;
+          is = subst (λ cs. IsBlockOf j number d cs new) (a.1 ∙ ap (λ cs. cs ++ a.0 ∷ []) none) is;
+        };
+      })
+      (λ b. let apart : true ≡ false = sym (b.1.at (formula_on d r) (record { is = refl })) ∙ broken in absurd (cc))
+      h
 
   -- ---- rule after rule
 

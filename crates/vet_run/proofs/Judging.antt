@@ -1,5 +1,5 @@
 -- Which rules a record breaks, one after the other.
-use Rattle.std.proofs.Common.{◌≡◌, ℕ, suc, ◌+◌, ◌<◌, ◌≤◌, Bool, true, false, List, [], ◌∷◌, ◌++◌, length, map, take, drop, get_or, refl, sym, ap, ◌∙◌, arith, append-nil, append_assoc, add-one, drop-cons}
+use Rattle.std.proofs.Common.{◌≡◌, ℕ, suc, ◌+◌, ◌<◌, ◌≤◌, Bool, true, false, List, [], ◌∷◌, ◌++◌, length, map, take, drop, get_or, refl, sym, ap, ◌∙◌, subst, arith, append-nil, append_assoc, add-one, drop-cons}
 use Rattle.std.specs.Prelude.{not, ◌&&◌, ◌||◌, ◌==◌, cond}
 use Rattle.std.proofs.lemmas.Bool.Decides.{nat_tests}
 use Rattle.std.proofs.lemmas.List.{drop_all, length-map, map-append, take-map, take_more}
@@ -7,7 +7,7 @@ use Rattle.serde_json.specs.Data.{Data}
 use Rattle.predicates_core.specs.Formula.{truth}
 use Rattle.vet_checks.specs.declared.rule_check.RuleCheck.{RuleCheck}
 use Rattle.vet_run.specs.Judgements.{Placed, placed, rule_of, broken_from, AddsBroken, IsJudged, asks_all}
-use Rattle.vet_run.specs.Records.{formula_on, keeps, broken, shown}
+use Rattle.vet_run.specs.Records.{formula_on, keeps, broken, shown, AreBroken}
 use Rattle.vet_run.specs.Settings.{shows_all}
 use Rattle.vet_run.specs.declared.judgement.Broken.{Broken}
 use Rattle.vet_run.specs.declared.settings.Report.{Report}
@@ -126,34 +126,45 @@ module _ (d : Data) where
       ap (λ n. n == 0) (sym (length-map bs placed)) ∙ sym (none_of_shown all (map placed bs)) ∙ ap (λ z. length z == 0) e
       ∙ none_of_shown all (broken_from 0 us d) ∙ none_from 0 us
 
-  -- ---- the formulas of those that are shown
+  -- ---- those that are shown
 
-  broken_one : (u : RuleCheck) (us : List RuleCheck) (b : Bool) → truth (formula_on d u) ≡ b → broken (u ∷ us) d ≡ cond b (broken us d) (formula_on d u ∷ broken us d)
-  broken_one u us b e = ap (λ b. cond b (broken us d) (formula_on d u ∷ broken us d)) e
-
-  rules_from : (all : Bool) (k : ℕ) (us : List RuleCheck) → broken (map (λ (b : Placed). b.1) (shown all (broken_from k us d))) d ≡ shown all (broken us d)
-  rules_from true k [] = refl
-  rules_from false k [] = refl
-  rules_from all k (u ∷ us) = one all (truth (formula_on d u)) refl (λ some. rules_from some (k + 1) us)
+  rules_from : (k : ℕ) (us : List RuleCheck) → map (λ (b : Placed). b.1) (broken_from k us d) ≡ broken us d
+  rules_from k [] = refl
+  rules_from k (u ∷ us) = one (truth (formula_on d u)) (rules_from (k + 1) us)
     where
-      one : (all b : Bool) → truth (formula_on d u) ≡ b
-          → ((some : Bool) → broken (map (λ (b : Placed). b.1) (shown some (broken_from (k + 1) us d))) d ≡ shown some (broken us d))
-          → broken (map (λ (b : Placed). b.1) (shown all (broken_from k (u ∷ us) d))) d ≡ shown all (broken (u ∷ us) d)
-      one all true e others =
-          ap (λ z. broken (map (λ (b : Placed). b.1) (shown all z)) d) (kept_from k u us e) ∙ others all
-          ∙ ap (shown all) (sym (broken_one u us true e))
-      one true false e others =
-          ap (λ z. broken (map (λ (b : Placed). b.1) z) d) (one_from k u us e)
-          ∙ broken_one u (map (λ (b : Placed). b.1) (broken_from (k + 1) us d)) false e
-          ∙ ap (λ z. formula_on d u ∷ z) (others true) ∙ sym (broken_one u us false e)
-      one false false e others =
-          ap (λ z. broken (map (λ (b : Placed). b.1) (take 1 z)) d) (one_from k u us e) ∙ broken_one u [] false e
-          ∙ ap (take 1) (sym (broken_one u us false e))
+      one : (b : Bool) → map (λ (b : Placed). b.1) (broken_from (k + 1) us d) ≡ broken us d
+          → map (λ (b : Placed). b.1) (cond b (broken_from (k + 1) us d) ((k, u) ∷ broken_from (k + 1) us d)) ≡ cond b (broken us d) (u ∷ broken us d)
+      one true e = e
+      one false e = ap (λ z. u ∷ z) e
 
   rules_placed : (bs : List Broken) → map rule_of bs ≡ map (λ (b : Placed). b.1) (map placed bs)
   rules_placed [] = refl
   rules_placed (b ∷ bs) = ap (λ z. rule_of b ∷ z) (rules_placed bs)
 
-  pub formulas_shown : (all : Bool) (us : List RuleCheck) (bs : List Broken) → IsJudged all us d (map placed bs) → broken (map rule_of (shown all bs)) d ≡ shown all (broken us d)
-  formulas_shown all us bs e =
-      ap (λ z. broken z d) (rules_placed (shown all bs) ∙ ap (map (λ (b : Placed). b.1)) (shown_map placed all bs ∙ e)) ∙ rules_from all 0 us
+  pub rules_shown : (all : Bool) (us : List RuleCheck) (bs : List Broken) → IsJudged all us d (map placed bs) → map rule_of (shown all bs) ≡ shown all (broken us d)
+  rules_shown all us bs e =
+      rules_placed (shown all bs) ∙ ap (map (λ (b : Placed). b.1)) (shown_map placed all bs ∙ e)
+      ∙ shown_map (λ (b : Placed). b.1) all (broken_from 0 us d) ∙ ap (shown all) (rules_from 0 us)
+
+  all_broken : (us : List RuleCheck) → AreBroken d (broken us d)
+  all_broken [] = tt
+  all_broken (u ∷ us) = one (truth (formula_on d u)) refl (all_broken us)
+    where
+      one : (b : Bool) → truth (formula_on d u) ≡ b → AreBroken d (broken us d) → AreBroken d (cond b (broken us d) (u ∷ broken us d))
+      one true e h = h
+      one false e h = (e, h)
+
+  shown_broken : (all : Bool) (us : List RuleCheck) → AreBroken d us → AreBroken d (shown all us)
+  shown_broken true us h = h
+  shown_broken false [] h = tt
+  shown_broken false (u ∷ us) h = (h.0, tt)
+
+  -- the record breaks those that are shown, and all that were found
+  pub broken_shown : (all : Bool) (us : List RuleCheck) (bs : List Broken) → IsJudged all us d (map placed bs) → AreBroken d (map rule_of (shown all bs))
+  broken_shown all us bs e = subst (AreBroken d) (sym (rules_shown all us bs e)) (shown_broken all (broken us d) (all_broken us))
+
+  pub broken_judged : (whole : Bool) (us : List RuleCheck) (bs : List Broken) → map placed bs ≡ shown whole (broken_from 0 us d) → AreBroken d (map rule_of bs)
+  broken_judged whole us bs e =
+      subst (AreBroken d)
+      (sym (rules_placed bs ∙ ap (map (λ (b : Placed). b.1)) e ∙ shown_map (λ (b : Placed). b.1) whole (broken_from 0 us d) ∙ ap (shown whole) (rules_from 0 us)))
+      (shown_broken whole (broken us d) (all_broken us))

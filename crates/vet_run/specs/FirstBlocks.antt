@@ -2,21 +2,20 @@
 use Rattle.std.specs.Prelude.{◌≡◌, ℕ, ◌+◌, ◌<◌, List, [], ◌∷◌, true, false, Option, Some, None, map}
 use Rattle.std.specs.Prelude.{length, get_or, string_bytes}
 use Rattle.serde_json.specs.Data.{Data}
-use Rattle.predicates_core.specs.Describe.{CaseNode}
 use Rattle.predicates_core.specs.Formula.{truth}
 use Rattle.predicates_core.specs.Shows.{Explains}
-use Rattle.predicates_core.specs.Tree.{Tree}
 use Rattle.vet_checks.specs.declared.rule_check.RuleCheck.{RuleCheck}
 use Rattle.vet_run.specs.InputLines.{record_taken}
-use Rattle.vet_run.specs.Records.{formula_on, IsBlockOf}
+use Rattle.vet_run.specs.Records.{formula_on, IsBlockOf, IsShown}
 use Rattle.vet_run.specs.declared.job.Job.{Job}
+use Rattle.vet_run.specs.declared.record.Shown.{Shown}
 use Rattle.vet_run.specs.declared.tally.Tally.{Tally}
 
 -- the block of one rule that the record breaks
 pub record IsRuleBlock (j : Job) (r : RuleCheck) (number : ℕ) (d : Data)
     (text : List ℕ) : Type 0 where
-  pub case : Tree CaseNode
-  pub explains : Explains (formula_on d r) case
+  pub case : Shown
+  pub explains : IsShown Explains d r case
   pub is : IsBlockOf j number d (case ∷ []) text
 
 -- what a rule has once a record is taken: what it had, where that is a block or the record keeps

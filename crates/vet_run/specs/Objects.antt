@@ -7,6 +7,7 @@ use Rattle.serde_json.specs.Written.{comma_if, compact_text}
 use Rattle.predicates_core.specs.Tree.{Tree, Forest, empty, branch}
 use Rattle.predicates_core.specs.Describe.{CaseNode, NamedBytes}
 use Rattle.predicates_core.specs.Leaves.{word}
+use Rattle.vet_run.specs.declared.record.Shown.{Shown}
 
 -- texts with commas between them, and one before them where something stands before
 abbrev pub listed : Bool → List (List ℕ) → List ℕ
@@ -59,11 +60,15 @@ forest_text later (branch name node below next) =
 abbrev pub case_text : Tree CaseNode → List ℕ
 case_text t = node_text t.root ++ (forest_text false t.children ++ codes "]}")
 
+-- what is shown of a rule: `null` where memory was refused for its case
+abbrev pub shown_text : Shown → List ℕ
+shown_text s = if s.refused then codes "null" else case_text s.case
+
 -- the member with all cases, or with the first where there is one
-abbrev pub cases_text : Bool → List (Tree CaseNode) → List ℕ
-cases_text true cases = codes ",\"cases\":[" ++ (listed false (map case_text cases) ++ codes "]")
+abbrev pub cases_text : Bool → List Shown → List ℕ
+cases_text true cases = codes ",\"cases\":[" ++ (listed false (map shown_text cases) ++ codes "]")
 cases_text false [] = []
-cases_text false (c ∷ cases) = codes ",\"case\":" ++ case_text c
+cases_text false (s ∷ cases) = codes ",\"case\":" ++ shown_text s
 
 -- the member with the input's name, where it has one
 abbrev pub file_text : Option (List ℕ) → List ℕ
@@ -71,7 +76,7 @@ file_text None = []
 file_text (Some name) = codes "\"file\":" ++ (quoted name ++ codes ",")
 
 -- the object of a record under its name, on a line
-abbrev pub object_text : Option (List ℕ) → List ℕ → Bool → Bool → List (Tree CaseNode) → List ℕ
+abbrev pub object_text : Option (List ℕ) → List ℕ → Bool → Bool → List Shown → List ℕ
 object_text source name held all cases =
     codes "{"
     ++ (file_text source

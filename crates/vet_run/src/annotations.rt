@@ -13,8 +13,7 @@ use crate::job::Job;
 use crate::judgement::{Broken, shown};
 use crate::line::Record;
 use crate::place::head;
-use crate::record::cases_of;
-use predicates_core::reflection::Case;
+use crate::record::{Shown, cases_of};
 use std::alloc::{AllocError, Global};
 use std::io::Write;
 use streams::{RunFault, write_bytes};
@@ -49,14 +48,14 @@ fn push_errors(
     alloc: Global,
     lines: &mut Vec<u8>,
     position: &Position<'_>,
-    cases: &[Case],
+    cases: &[Shown],
 ) -> Result<(), AllocError>
     ensures { OnOk result (lines.new.items ≡ lines.old.items
         ++ flat_map (error_of position.now.style.now (option_map (λ s. s.now) position.now.file)
         position.now.line position.now.opening.now) cases.now) }
 {
-    for case in cases {
-        push_error(alloc, lines, position, case)?;
+    for shown in cases {
+        push_error(alloc, lines, position, shown)?;
     }
     Ok(())
 }

@@ -1,8 +1,10 @@
 //! The block of the first record that breaks each rule.
-ghost use Rattle.std.specs.Prelude.{OnOk, map, string_bytes};
+ghost use Rattle.std.specs.Prelude.{◌≡◌, OnOk, false, map, string_bytes};
+ghost use Rattle.predicates_core.specs.Formula.{truth};
 ghost use Rattle.serde_json.specs.View.{view};
 ghost use Rattle.vet_run.specs.FirstBlocks.{TakesFirst};
-ghost use Rattle.vet_run.specs.Judgements.{TakesAt, TakesEach, placed};
+ghost use Rattle.vet_run.specs.Judgements.{TakesAt, TakesEach, placed, rule_of};
+ghost use Rattle.vet_run.specs.Records.{AreBroken, formula_on};
 
 use crate::job::Job;
 use crate::judgement::Broken;
@@ -11,7 +13,7 @@ use crate::record::{add_case, write_block};
 use std::alloc::{AllocError, Global};
 use vet_checks::RuleCheck;
 
-// Writes the block of the rule where there is none yet and the record breaks the rule.
+// Writes the block of the rule, which the record breaks, where there is none yet.
 fn take_first(
     alloc: Global,
     job: &Job<'_>,
@@ -19,6 +21,7 @@ fn take_first(
     record: &Record<'_>,
     block: &mut String,
 ) -> Result<(), AllocError>
+    requires { truth (formula_on (view record.now.value.now) rule.now) ≡ false }
     ensures { OnOk result (TakesFirst job.now rule.now record.now.number (view record.now.value.now)
         (string_bytes block.old) (string_bytes block.new)) }
 {
@@ -26,9 +29,7 @@ fn take_first(
         return Ok(());
     }
     let mut cases = Vec::new(alloc);
-    if !add_case(alloc, rule, record.value, &mut cases)? {
-        return Ok(());
-    }
+    add_case(alloc, rule, record.value, &mut cases)?;
     write_block(alloc, job, record, block, cases.as_slice())
 }
 
@@ -40,6 +41,7 @@ fn take_at(
     record: &Record<'_>,
     blocks: &mut Vec<String>,
 ) -> Result<(), AllocError>
+    requires { truth (formula_on (view record.now.value.now) broken.now.rule.now) ≡ false }
     ensures { OnOk result (TakesAt job.now record.now.number (view record.now.value.now)
         (placed broken.now) (map string_bytes blocks.old.items)
         (map string_bytes blocks.new.items)) }
@@ -59,6 +61,7 @@ pub(crate) fn take_firsts(
     record: &Record<'_>,
     blocks: &mut Vec<String>,
 ) -> Result<(), AllocError>
+    requires { AreBroken (view record.now.value.now) (map rule_of broken.now) }
     ensures { OnOk result (TakesEach job.now record.now.number (view record.now.value.now)
         (map placed broken.now) (map string_bytes blocks.old.items)
         (map string_bytes blocks.new.items)) }

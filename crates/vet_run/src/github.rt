@@ -5,8 +5,9 @@ ghost use Rattle.vet_run.specs.GitHub.{property_byte, property_text, title, with
 ghost use Rattle.vet_run.specs.Records.{error_of};
 
 use crate::bytes::{push_bytes, push_number};
+use crate::record::{Shown, write_shown};
 use predicates_core::reflection::Case;
-use predicates_style::{Style, render_styled_onto};
+use predicates_style::Style;
 use std::alloc::{AllocError, Global};
 
 /// Where a record stands, what opens the message of each of its lines, and how a case is shown.
@@ -111,11 +112,11 @@ pub(crate) fn push_error(
     alloc: Global,
     lines: &mut Vec<u8>,
     position: &Position<'_>,
-    case: &Case,
+    shown: &Shown,
 ) -> Result<(), AllocError>
     ensures { OnOk result (lines.new.items ≡ lines.old.items
         ++ error_of position.now.style.now (option_map (λ s. s.now) position.now.file)
-        position.now.line position.now.opening.now case.now) }
+        position.now.line position.now.opening.now shown.now) }
 {
     let Position {
         file,
@@ -124,11 +125,11 @@ pub(crate) fn push_error(
         style,
     } = *position;
     let mut message = String::from_str(alloc, opening)?;
-    render_styled_onto(&mut message, style, case)?;
+    write_shown(&mut message, style, shown)?;
     push_bytes(lines, b"::error ")?;
     push_position(alloc, lines, file, line)?;
     push_bytes(lines, b"title=")?;
-    push_property(lines, title(case))?;
+    push_property(lines, title(&shown.case))?;
     push_bytes(lines, b"::")?;
     push_message(lines, without_last(message.as_bytes()))?;
     push_bytes(lines, b"\n")

@@ -8,7 +8,9 @@ ghost use Rattle.vet_run.specs.Objects.{quoted, listed, value_text, product_text
 ghost use Rattle.vet_run.specs.Objects.{predicate_text, verdict_text, node_text, name_text};
 ghost use Rattle.vet_run.specs.Objects.{forest_text};
 ghost use Rattle.vet_run.specs.Objects.{case_text, cases_text, file_text, object_text};
+ghost use Rattle.vet_run.specs.Objects.{shown_text};
 
+use crate::record::Shown;
 use predicates_core::reflection::{Case, CaseChild, CaseView, Product};
 use serde_json::Value;
 use std::alloc::{AllocError, Global};
@@ -22,7 +24,7 @@ pub(crate) struct Object<'a> {
     pub(crate) name: &'a str,
     /// Whether all cases are shown, or the first.
     pub(crate) all: bool,
-    pub(crate) cases: &'a [Case],
+    pub(crate) cases: &'a [Shown],
 }
 
 fn word_of(truth: bool) -> &'static str
@@ -169,21 +171,37 @@ fn push_case(alloc: Global, text: &mut String, case: &Case) -> Result<(), AllocE
     text.push_str("]}")
 }
 
-fn push_all(alloc: Global, text: &mut String, cases: &[Case]) -> Result<(), AllocError>
+// Writes what is shown of a rule behind the text: `null` where memory was refused for its case.
+fn push_shown(alloc: Global, text: &mut String, shown: &Shown) -> Result<(), AllocError>
+    ensures { OnOk result (string_bytes text.new ≡ string_bytes text.old ++ shown_text shown.now) }
+{
+    if shown.refused {
+        text.push_str("null")
+    } else {
+        push_case(alloc, text, &shown.case)
+    }
+}
+
+fn push_all(alloc: Global, text: &mut String, cases: &[Shown]) -> Result<(), AllocError>
     ensures { OnOk result (string_bytes text.new
-        ≡ string_bytes text.old ++ listed false (map case_text cases.now)) }
+        ≡ string_bytes text.old ++ listed false (map shown_text cases.now)) }
 {
     let mut later = false;
-    for case in cases {
+    for shown in cases {
         push_comma(text, later)?;
-        push_case(alloc, text, case)?;
+        push_shown(alloc, text, shown)?;
         later = true;
     }
     Ok(())
 }
 
 // Writes the member with all cases, or with the first where there is one.
-fn push_cases(alloc: Global, text: &mut String, all: bool, cases: &[Case]) -> Result<(), AllocError>
+fn push_cases(
+    alloc: Global,
+    text: &mut String,
+    all: bool,
+    cases: &[Shown],
+) -> Result<(), AllocError>
     ensures { OnOk result
         (string_bytes text.new ≡ string_bytes text.old ++ cases_text all cases.now) }
 {
@@ -195,7 +213,7 @@ fn push_cases(alloc: Global, text: &mut String, all: bool, cases: &[Case]) -> Re
     match cases {
         [first, ..] => {
             text.push_str(",\"case\":")?;
-            push_case(alloc, text, first)
+            push_shown(alloc, text, first)
         }
         [] => Ok(()),
     }

@@ -1,14 +1,13 @@
 //! What is written for one record.
-ghost use Rattle.std.specs.Prelude.{◌≡◌, ◌++◌, ◌==◌, IfOk, OnOk, option_map, true};
+ghost use Rattle.std.specs.Prelude.{◌≡◌, ◌++◌, ◌==◌, IfOk, OnOk, Some, option_map, true, false, []};
 ghost use Rattle.std.specs.Prelude.{string_bytes, length, flat_map, map};
 ghost use Rattle.std.specs.List.{AllZip};
 ghost use Rattle.predicates_core.specs.Change.{ExplainsChange};
-ghost use Rattle.predicates_style.specs.StyledLines.{styled_lines};
-ghost use Rattle.predicates_core.specs.Shows.{Explains};
+ghost use Rattle.predicates_core.specs.Shows.{Explains, IsNode};
+ghost use Rattle.vet_checks.specs.RuleChecks.{name_of};
 ghost use Rattle.serde_json.specs.View.{view};
 ghost use Rattle.vet_run.specs.Judgements.{IsJudged, placed, rule_of};
-ghost use Rattle.vet_run.specs.Records.{broken, block, AddsCase};
-ghost use Rattle.vet_run.specs.Records.{AddsChange};
+ghost use Rattle.vet_run.specs.Records.{AddsShown, AreBroken, IsShown, block, refused_text, shown_lines};
 ghost use Rattle.vet_run.specs.Records.{IsBlock, IsBlockOf, IsChangeBlock, IsObject};
 ghost use Rattle.vet_run.specs.Records.{wanted_text};
 
@@ -18,6 +17,7 @@ use crate::line::Record;
 use crate::object::{Object, write_object};
 use crate::place::{head, name};
 use crate::workspace::Workspace;
+use predicates_core::node::leaf_node;
 use predicates_core::reflection::Case;
 use predicates_core::{Predicate, PredicateChange};
 use predicates_style::{Style, render_styled_onto};
@@ -25,31 +25,57 @@ use serde_json::Value;
 use std::alloc::{AllocError, Global};
 use vet_checks::RuleCheck;
 
-/// Adds the case of the rule where the record breaks it, and says whether it does.
+/// What is shown of a rule that a record breaks.
+#[derive(Drop)]
+pub(crate) struct Shown {
+    /// Its case; where memory is refused for that, a node with its name.
+    pub(crate) case: Case,
+    pub(crate) refused: bool,
+}
+
+// What is shown of a rule for whose case memory is refused.
+fn refused(alloc: Global, rule: &RuleCheck) -> Result<Shown, AllocError>
+    ensures { IfOk result (λ shown. (shown.refused ≡ true)
+        × IsNode (Some (name_of rule.now)) false [] shown.case) }
+{
+    let name = String::from_str(alloc, &rule.name)?;
+    Ok(Shown {
+        case: leaf_node(alloc, name, false),
+        refused: true,
+    })
+}
+
+/// Adds the case of the rule, which the record breaks.
 pub(crate) fn add_case(
     alloc: Global,
     rule: &RuleCheck,
     value: &Value,
-    cases: &mut Vec<Case>,
-) -> Result<bool, AllocError>
-    ensures { IfOk result
-        (AddsCase (view value.now) rule.now cases.old.items cases.new.items) }
+    cases: &mut Vec<Shown>,
+) -> Result<(), AllocError>
+    ensures { OnOk result
+        (AddsShown Explains (view value.now) rule.now cases.old.items cases.new.items) }
 {
-    let Some(case) = rule.find_case(alloc, false, value)? else {
-        return Ok(false);
+    let shown = match rule.find_case(alloc, false, value) {
+        Ok(Some(case)) => Shown {
+            case,
+            refused: false,
+        },
+        Ok(None) => return Ok(()),
+        Err(_) => refused(alloc, rule)?,
     };
-    cases.push(case)?;
-    Ok(true)
+    cases.push(shown)?;
+    Ok(())
 }
 
-/// The cases of the rules that the record breaks.
+/// The cases of the rules, which the record breaks.
 pub(crate) fn cases_of(
     alloc: Global,
     rules: &[Broken<'_>],
     value: &Value,
-) -> Result<Vec<Case>, AllocError>
+) -> Result<Vec<Shown>, AllocError>
+    requires { AreBroken (view value.now) (map rule_of rules.now) }
     ensures { IfOk result (λ cases.
-        AllZip Explains (broken (map rule_of rules.now) (view value.now)) cases.items) }
+        AllZip (IsShown Explains (view value.now)) (map rule_of rules.now) cases.items) }
 {
     let mut cases = Vec::new(alloc);
     for broken in rules {
@@ -58,25 +84,33 @@ pub(crate) fn cases_of(
     Ok(cases)
 }
 
-// Adds what would have to change in the rule where the record breaks it.
+// Adds what would have to change in the rule, which the record breaks.
 fn add_change(
     alloc: Global,
     rule: &RuleCheck,
     value: &Value,
-    cases: &mut Vec<Case>,
+    cases: &mut Vec<Shown>,
 ) -> Result<(), AllocError>
-    ensures { OnOk result (AddsChange (view value.now) rule.now cases.old.items cases.new.items) }
+    ensures { OnOk result
+        (AddsShown ExplainsChange (view value.now) rule.now cases.old.items cases.new.items) }
 {
-    match rule.find_change(alloc, Some(false), value)? {
-        Some(case) => Ok(cases.push(case)?),
-        None => Ok(()),
-    }
+    let shown = match rule.find_change(alloc, Some(false), value) {
+        Ok(Some(case)) => Shown {
+            case,
+            refused: false,
+        },
+        Ok(None) => return Ok(()),
+        Err(_) => refused(alloc, rule)?,
+    };
+    cases.push(shown)?;
+    Ok(())
 }
 
-// What would have to change in each of the rules that the record breaks.
-fn changes_of(alloc: Global, rules: &[Broken<'_>], value: &Value) -> Result<Vec<Case>, AllocError>
+// What would have to change in each of the rules, which the record breaks.
+fn changes_of(alloc: Global, rules: &[Broken<'_>], value: &Value) -> Result<Vec<Shown>, AllocError>
+    requires { AreBroken (view value.now) (map rule_of rules.now) }
     ensures { IfOk result (λ cases.
-        AllZip ExplainsChange (broken (map rule_of rules.now) (view value.now)) cases.items) }
+        AllZip (IsShown ExplainsChange (view value.now)) (map rule_of rules.now) cases.items) }
 {
     let mut cases = Vec::new(alloc);
     for broken in rules {
@@ -85,13 +119,35 @@ fn changes_of(alloc: Global, rules: &[Broken<'_>], value: &Value) -> Result<Vec<
     Ok(cases)
 }
 
-// Writes the lines of each case behind the text.
-fn write_cases(text: &mut String, style: &Style, cases: &[Case]) -> Result<(), AllocError>
-    ensures { OnOk result (string_bytes text.new
-        ≡ string_bytes text.old ++ flat_map (styled_lines style.now) cases.now) }
+// Writes that memory was refused for a case, where it was.
+fn write_refused(text: &mut String, refused: bool) -> Result<(), AllocError>
+    ensures { OnOk result (string_bytes text.new ≡ string_bytes text.old ++ refused_text refused) }
 {
-    for case in cases {
-        render_styled_onto(text, style, case)?;
+    if refused {
+        text.push_str("  no memory to show why\n")
+    } else {
+        Ok(())
+    }
+}
+
+/// Writes the lines of what is shown of a rule behind the text.
+#[tactic(auto, unfolding(crate::specs::Records::shown_lines))]
+pub(crate) fn write_shown(text: &mut String, style: &Style, shown: &Shown) -> Result<(), AllocError>
+    ensures { OnOk result
+        (string_bytes text.new ≡ string_bytes text.old ++ shown_lines style.now shown.now) }
+{
+    render_styled_onto(text, style, &shown.case)?;
+    write_refused(text, shown.refused)?;
+    Ok(())
+}
+
+// Writes the lines of each case behind the text.
+fn write_cases(text: &mut String, style: &Style, cases: &[Shown]) -> Result<(), AllocError>
+    ensures { OnOk result (string_bytes text.new
+        ≡ string_bytes text.old ++ flat_map (shown_lines style.now) cases.now) }
+{
+    for shown in cases {
+        write_shown(text, style, shown)?;
     }
     Ok(())
 }
@@ -101,7 +157,7 @@ fn write_headed(
     text: &mut String,
     style: &Style,
     head: &str,
-    cases: &[Case],
+    cases: &[Shown],
 ) -> Result<(), AllocError>
     ensures { OnOk result
         (string_bytes text.new ≡ string_bytes text.old ++ block style.now head.now cases.now) }
@@ -117,7 +173,7 @@ pub(crate) fn write_block(
     job: &Job<'_>,
     record: &Record<'_>,
     text: &mut String,
-    cases: &[Case],
+    cases: &[Shown],
 ) -> Result<(), AllocError>
     ensures { OnOk result (IsBlockOf job.now record.now.number (view record.now.value.now) cases.now
         (string_bytes text.new)) }

@@ -288,8 +288,9 @@ fn take_long_line<M: Write>(
 ///
 /// It takes memory for the longest line, for the record on it, for what is written of it, for a
 /// matcher of each pattern of the rules and for a block of each rule where the tally keeps them,
-/// and no more however long the input is. After a fault the
-/// tally has the lines before it, and nothing is said of how much was written.
+/// and no more however long the input is. A rule for whose case memory is refused is told without
+/// it, and the run goes on. After a fault the tally has the lines before it, and nothing is said of
+/// how much was written.
 ///
 /// ```
 /// let rules = read_checks(alloc, b"adult: /age >= 18")?;

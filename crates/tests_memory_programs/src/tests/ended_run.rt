@@ -13,13 +13,23 @@ pub enum EndedRun {
 }
 
 impl EndedRun {
-    /// How a run ended that wrote this, by what it answered.
+    /// How a run ended that wrote this, by what it answered. One that tells that it had no memory
+    /// for a case ran out of memory.
     pub fn of(ended: Result<bool, RunFault>, written: Vec<u8>) -> Result<EndedRun, AllocError> {
         match ended {
+            Ok(_) if tells_refusal(&written) => Err(AllocError),
             Ok(all) => Ok(EndedRun::Wrote(all, written)),
             Err(RunFault::NoMemory) => Err(AllocError),
             Err(_) => Ok(EndedRun::OtherFault),
         }
+    }
+}
+
+// Whether a run of `vet` tells that there was no memory for a case.
+fn tells_refusal(written: &[u8]) -> bool {
+    match str::from_utf8(written) {
+        Ok(text) => text.contains("no memory to show why") || text.contains("\"case\":null"),
+        Err(_) => false,
     }
 }
 

@@ -8,8 +8,12 @@ use Rattle.vet_run.specs.Records.{shown}
 use Rattle.vet_run.specs.Settings.{tells}
 use Rattle.vet_run.proofs.Counted.{counted_judged}
 use Rattle.vet_run.proofs.Firsts.{firsts_judged}
-use Rattle.vet_run.proofs.Judging.{keeps_where_none}
+use Rattle.vet_run.proofs.Judging.{broken_judged, keeps_where_none}
 use Rattle.vet_run.proofs.run.take_record.Goals as goal
+
+pub take_firsts-requires : goal.take_firsts-requires
+take_firsts-requires g c =
+    rw (c.deref-2.ensures.value) (broken_judged (view c.args.record.now.value.now) c.asks_all-whole.result c.args.job.now.rules.now c.in_ok-broken.broken.items c.in_ok-broken.ensures)
 
 pub returns-clause-broken : goal.returns-clause-broken
 returns-clause-broken g c =
