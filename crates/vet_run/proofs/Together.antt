@@ -39,7 +39,7 @@ behind n f fs zero S other h = rw h refl
 behind n f fs (suc m) S other h = ([], S, refl, inr (other, refl, h))
 
 module _ (name : List ℕ) (d : Data) where
-  last_shared : (r : RuleCheck) (cases : List (Tree CaseNode)) (b : Bool) → truth (formula_on d r) ≡ b → AllZip ExplainsChange (cond b [] (formula_on d r ∷ [])) cases → Shared name d r [] cases (one_if (beq b false))
+  last_shared : (r : RuleCheck) (cases : List (Tree CaseNode)) (b : Bool) → truth (formula_on d r) ≡ b → AllZip ExplainsChange (map (formula_on d) (cond b [] (r ∷ []))) cases → Shared name d r [] cases (one_if (beq b false))
   last_shared r [] true is h = ([], refl, ([], [], refl, inl (is, refl, (refl, refl))))
   last_shared r (c ∷ cs) true is h = absurd h
   last_shared r [] false is h = absurd h
@@ -47,8 +47,8 @@ module _ (name : List ℕ) (d : Data) where
   last_shared r (c ∷ e ∷ cs) false is h = absurd h.1
 
   more_shared : (r q : RuleCheck) (rs : List RuleCheck) (cases : List (Tree CaseNode)) (m : ℕ) (b : Bool) → truth (formula_on d r) ≡ b
-      → ((cs : List (Tree CaseNode)) → AllZip ExplainsChange (broken (q ∷ rs) d) cs → Shared name d q rs cs m)
-      → AllZip ExplainsChange (cond b (broken (q ∷ rs) d) (formula_on d r ∷ broken (q ∷ rs) d)) cases → Shared name d r (q ∷ rs) cases (one_if (beq b false) + m)
+      → ((cs : List (Tree CaseNode)) → AllZip ExplainsChange (map (formula_on d) (broken (q ∷ rs) d)) cs → Shared name d q rs cs m)
+      → AllZip ExplainsChange (map (formula_on d) (cond b (broken (q ∷ rs) d) (r ∷ broken (q ∷ rs) d))) cases → Shared name d r (q ∷ rs) cases (one_if (beq b false) + m)
   more_shared r q rs cases m true is rest h =
       let s = rest cases h in
       let S = shifted (size (formula_on d r)) s.0 in
@@ -66,7 +66,7 @@ module _ (name : List ℕ) (d : Data) where
       let count : suc m ≡ 1 + m = omega arith in
       (S, subst (λ k. IsSelected changes (is_like false) k fs S) count one_more, (L, s.0, ap (λ z. L ++ z) (shifted_is (size (formula_on d r)) s.0), inr (is, (c, cs, refl, h.0.shown, s.2))))
 
-  shared : (r : RuleCheck) (rs : List RuleCheck) (cases : List (Tree CaseNode)) → AllZip ExplainsChange (broken (r ∷ rs) d) cases
+  shared : (r : RuleCheck) (rs : List RuleCheck) (cases : List (Tree CaseNode)) → AllZip ExplainsChange (map (formula_on d) (broken (r ∷ rs) d)) cases
       → Shared name d r rs cases (many (is_like false) (formulas_of name (formula_on d) r rs))
   shared r [] cases h = last_shared r cases (truth (formula_on d r)) refl h
   shared r (q ∷ rs) cases h = more_shared r q rs cases (many (is_like false) (formulas_of name (formula_on d) q rs)) (truth (formula_on d r)) refl (λ cs g. shared q rs cs g) h

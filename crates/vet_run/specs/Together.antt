@@ -32,6 +32,6 @@ AreShownBy d (r ∷ rs) cases leaves = (own : List ℕ) × (others : List ℕ)
 abbrev pub ShowTogether : Type 0
 ShowTogether = (label : Label) (name : List ℕ) (d : Data) (r : RuleCheck) (rs : List RuleCheck)
     (cases : List (Tree CaseNode)) → keeps (r ∷ rs) d ≡ false
-    → AllZip ExplainsChange (broken (r ∷ rs) d) cases
+    → AllZip ExplainsChange (map (formula_on d) (broken (r ∷ rs) d)) cases
     → (leaves : List ℕ) × IsFirstChange (formula_of_all label name d r rs) leaves
     × AreShownBy d (r ∷ rs) cases leaves

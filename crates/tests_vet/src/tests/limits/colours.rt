@@ -130,7 +130,7 @@ const PARTS: [(&[u8], &str); 3] = [
         b"1",
         "    item: / == 1 = false\n      - found: 2\n      - index: 0\n    .. 2 more\n",
     ),
-    (b"0", "  rule: each /x (/ == 1) = false\n    .. 3 more\n"),
+    (b"0", "record 1: false\na = false\n  .. 1 more\n"),
     (
         b"3",
         "      - index: 1\n    item: / == 1 = false\n      - found: 2\n      - index: 2\n",
