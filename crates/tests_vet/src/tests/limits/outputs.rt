@@ -49,11 +49,12 @@ const AT_THE_END: [Row; 4] = [
 // fails by the kind.
 fn ends(alloc: Global, row: Row, kind: ErrorKind, status: u8, messages: &[u8]) -> bool {
     let (words, input) = row;
+    let variables: &'static [(&'static str, &'static [u8])] = &[];
     let process = OddProcess {
         held: Process::new(alloc, words, &FILES, input),
         fault: Some(kind),
         folder: "",
-        variables: &[],
+        variables,
     };
     let found = run_program(
         &process,
@@ -206,11 +207,12 @@ fn shows_no_share(alloc: Global, folder: &'static str) -> bool {
     let words: Words = &[b"vet", b"--progress", b"rules", b"one", b"two"];
     let mut held = Process::new(alloc, words, &FILES, b"");
     held.tick = Some(200);
+    let variables: &'static [(&'static str, &'static [u8])] = &[];
     let process = OddProcess {
         held,
         fault: None,
         folder,
-        variables: &[],
+        variables,
     };
     let status = run_program(
         &process,

@@ -174,9 +174,12 @@ fn mixed_lists(rt: HostRuntime) {
     }
 }
 
-// The first word in the order of bytes.
+// The first word in the order of bytes, or none where there is no word.
 fn least<'a>(words: &[&'a str]) -> &'a str {
-    let mut first = words[0];
+    let Some(word) = words.first() else {
+        return "";
+    };
+    let mut first = *word;
     for word in words {
         if word.as_bytes() < first.as_bytes() {
             first = word;
