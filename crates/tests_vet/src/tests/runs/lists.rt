@@ -190,6 +190,7 @@ fn least<'a>(words: &[&'a str]) -> &'a str {
 
 // Whether a run over an object with all words as keys tells the first that is not of the list.
 fn tells_the_other_key(rt: &impl Abort, alloc: Global, count: usize) -> bool {
+    assert!(rt; count <= WORDS.len());
     let mut object = String::new(alloc);
     for member in quoted(rt, alloc, &WORDS) {
         let member = format!(in alloc; "{member}: 0").expect(rt, "memory");
