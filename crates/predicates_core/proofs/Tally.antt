@@ -14,7 +14,7 @@ use Rattle.predicates_core.specs.Shows.{numbered, tells_numbers, ExplainsBy, IsF
 use Rattle.predicates_core.specs.Leaves.{IsExactly}
 use Rattle.predicates_core.specs.Asked.{shown_verdict, is_other}
 use Rattle.predicates_core.specs.Several.{is_absent}
-use Rattle.predicates_core.specs.Tally.{kind_of, asks_for, asked_by, IsAsked, IsDecided, IsOpen, count_like, AreShown, IsOver, IsNextCase, IsNodeWith, IsKept, Takes}
+use Rattle.predicates_core.specs.Tally.{kind_of, asks_for, asked_by, IsAsked, IsUnsought, IsDecided, IsOpen, IsSpare, MayCount, count_like, AreShown, IsOver, IsNextCase, IsNodeWith, IsKept, Takes, Counts}
 use Rattle.predicates_core.specs.declared.custom.tally.Kept.{Kept}
 use Rattle.predicates_core.specs.declared.custom.tally.Sought.{Sought}
 use Rattle.predicates_core.specs.declared.custom.tally.Tally.{Tally}
@@ -62,15 +62,15 @@ told_if false false false asked (Some c) e some v = absurd (cc)
 
 -- ---- how many formulas have a truth
 
-count_more : (b : Bool) (fs : List Formula) (f : Formula) → count_like b (fs ++ f ∷ []) ≡ count_like b fs + one_if (beq (truth f) b)
-count_more b [] f = omega arith
-count_more b (g ∷ fs) f = let ih = count_more b fs f in omega (arith, ih)
+pub count_joined : (b : Bool) (fs gs : List Formula) → count_like b (fs ++ gs) ≡ count_like b fs + count_like b gs
+count_joined b [] gs = omega arith
+count_joined b (f ∷ fs) gs = let ih = count_joined b fs gs in omega (arith, ih)
 
 count_with : (b : Bool) (fs : List Formula) (f : Formula) → truth f ≡ b → count_like b (fs ++ f ∷ []) ≡ suc (count_like b fs)
-count_with b fs f is = let e = count_more b fs f in let o = one_like (truth f) b is in omega (arith, e, o)
+count_with b fs f is = let e = count_joined b fs (f ∷ []) in let o = one_like (truth f) b is in omega (arith, e, o)
 
 count_without : (b : Bool) (fs : List Formula) (f : Formula) → truth f ≡ not b → count_like b (fs ++ f ∷ []) ≡ count_like b fs
-count_without b fs f is = let e = count_more b fs f in let o = none_like (truth f) b is in omega (arith, e, o)
+count_without b fs f is = let e = count_joined b fs (f ∷ []) in let o = none_like (truth f) b is in omega (arith, e, o)
 
 pub count_both : (b : Bool) (fs : List Formula) → count_like b fs + count_like (not b) fs ≡ length fs
 count_both b [] = refl
@@ -144,23 +144,36 @@ module _ (b : Bool) (s : Sought) (text : Entry) (name : List ℕ) where
   abbrev room : ℕ
   room = enough_of (not b) s.least s.number
 
-  -- a part with the other truth
-  pub kept_passed : (fs : List Formula) (f : Formula) (kept : Kept) (others fresh : ℕ) → IsKept b s text name fs kept others → truth f ≡ not b → fresh ≡ suc others → IsKept b s text name (fs ++ f ∷ []) kept fresh
-  kept_passed fs f kept others fresh h is grown = record {
-    cases = h.cases;
-    over = h.over;
-    shown = shown_more (kind_of s.turns) _ b 0 fs (f ∷ []) h.cases h.shown;
-    counted = h.counted ∙ sym (count_without b fs f is);
-    barely = h.barely;
-    all = λ w few. h.all w (omega (arith, few, grown));
-  }
-
   not_asked : (such others : ℕ) → asks_for b s such others ≡ false → is_other s.wanted b ≡ false → others < room → (s.turns ≡ true) × (room ≤ such)
   not_asked such others e w few =
       let less : nat_lt others room ≡ true = grind (arith, nat_tests) in
       let x = none_passes (is_other s.wanted b) s.turns (nat_lt such room) (nat_lt others room) e w less in
       let enough : nat_lt such room ≡ false = x.1 in
       (x.0, grind (arith, nat_tests))
+
+  -- parts of which no case is sought
+  kept_counted : (fs gs : List Formula) (old new : Kept) (others fresh : ℕ) → IsKept b s text name fs old others → MayCount b s old.count others (count_like b gs) → new.node ≡ old.node → new.count ≡ old.count + count_like b gs → others ≤ fresh → IsKept b s text name (fs ++ gs) new fresh
+  kept_counted fs gs old new others fresh h may node count grown = record {
+    cases = h.cases;
+    over = subst (IsOver b text name h.cases) (sym node) h.over;
+    shown = shown_more (kind_of s.turns) _ b 0 fs gs h.cases h.shown;
+    counted = let c = h.counted in let j = count_joined b fs gs in omega (arith, c, j, count);
+    barely = λ t. let m = may.barely t in omega (arith, m, count);
+    all = λ w few.
+        let known = h.all w (omega (arith, few, grown)) in
+        ⊎_elim
+        (λ none. ⊎_elim (λ same. inl (omega (arith, same, count, none))) (λ plenty. inr plenty) known)
+        (λ unsought.
+        let x = not_asked old.count others unsought w (omega (arith, few, grown)) in
+        inr (x.0, ⊎_elim (λ same. let full = x.1 in omega (arith, same, full)) (λ plenty. plenty.1) known))
+        may.unsought;
+  }
+
+  -- a part with the other truth
+  pub kept_passed : (fs : List Formula) (f : Formula) (kept : Kept) (others fresh : ℕ) → IsKept b s text name fs kept others → truth f ≡ not b → fresh ≡ suc others → IsKept b s text name (fs ++ f ∷ []) kept fresh
+  kept_passed fs f kept others fresh h is grown =
+      let none = none_like (truth f) b is in
+      kept_counted fs (f ∷ []) kept kept others fresh h (record { unsought = inl (omega (arith, none)); barely = λ t. let m = h.barely t in omega (arith, m, none) }) refl (omega (arith, none)) (omega (arith, grown))
 
   so_asked : (such others : ℕ) → asks_for b s such others ≡ true → (is_other s.wanted b ≡ false) × (s.turns ≡ true → (such < room) × (others < room))
   so_asked such others e =
@@ -181,16 +194,9 @@ module _ (b : Bool) (s : Sought) (text : Entry) (name : List ℕ) where
       more : (found : Found) (asks : Bool) → asks_for b s old.count others ≡ asks → IsToldIf asks found → IsNodeWith b text name old.node (option_map (numbered (tells_numbers (kind_of s.turns) b s.least s.number) index) found) new.node → ((c : Tree CaseNode) → found ≡ Some c → ExplainsBy (kind_of s.turns) f c) → IsKept b s text name (fs ++ f ∷ []) new others
       more None true e told node of_case = absurd told
       more (Some c) false e told node of_case = absurd told
-      more None false e told node of_case = record {
-        cases = h.cases;
-        over = subst (IsOver b text name h.cases) (sym node) h.over;
-        shown = shown_more (kind_of s.turns) _ b 0 fs (f ∷ []) h.cases h.shown;
-        counted = counts;
-        barely = few;
-        all = λ w less.
-            let x = not_asked old.count others e w less in
-            inr (x.0, ⊎_elim (λ same. let full = x.1 in omega (arith, same, full)) (λ plenty. plenty.1) (h.all w less));
-      }
+      more None false e told node of_case =
+          let one = one_like (truth f) b is in
+          kept_counted fs (f ∷ []) old new others others h (record { unsought = inr e; barely = λ t. let m = few t in omega (arith, m, count, one) }) node (omega (arith, count, one)) (omega arith)
       more (Some c) true e told node of_case =
           let tells = tells_numbers (kind_of s.turns) b s.least s.number in
           let d : Tree CaseNode = numbered tells index c in
@@ -241,3 +247,56 @@ module _ (text : Entry) (name : List ℕ) (t : Tally) (may : IsOpen t) (asked : 
         held = kept_passed true t.sought text name fs f t.held t.failed.count failed.count h.held is grown;
         failed = kept_more false t.sought text name fs f t.seen t.failed failed t.held.count found h.failed is h.seen (case_of fs f x) (told_if false _ _ asked found as_asked told v) may.failed may.held grown node;
       }
+
+-- ---- parts that told no case
+
+pub counts_more : (text : Entry) (name : List ℕ) (t : Tally) (held failed : Kept) (seen h f : ℕ) → MayCount true t.sought t.held.count t.failed.count h → MayCount false t.sought t.failed.count t.held.count f → seen ≡ t.seen + (h + f) → seen < 2 ^ 64
+    → held.node ≡ t.held.node → failed.node ≡ t.failed.node → (t.held.count + h < 2 ^ 64 → held.count ≡ t.held.count + h) → (t.failed.count + f < 2 ^ 64 → failed.count ≡ t.failed.count + f) → Counts text name h f t (record t { seen = seen; held = held; failed = failed })
+counts_more text name t held failed seen h f may_held may_failed next fits held_node failed_node held_is failed_is = λ fs gs k eh ef.
+    let all : count_like true fs + count_like false fs ≡ length fs = count_both true fs in
+    let more : count_like true gs + count_like false gs ≡ length gs = count_both true gs in
+    let c = k.held.counted in
+    let d = k.failed.counted in
+    let l = k.seen in
+    let held_grown = held_is (omega (arith, all, c, l, next, fits)) in
+    let failed_grown = failed_is (omega (arith, all, d, l, next, fits)) in
+    record {
+      present = k.present;
+      seen = let m = length-append fs gs in omega (arith, m, more, l, next, eh, ef);
+      held = kept_counted true t.sought text name fs gs t.held held t.failed.count failed.count k.held (subst (MayCount true t.sought t.held.count t.failed.count) (sym eh) may_held) held_node (omega (arith, held_grown, eh)) (omega (arith, failed_grown));
+      failed = kept_counted false t.sought text name fs gs t.failed failed t.held.count held.count k.failed (subst (MayCount false t.sought t.failed.count t.held.count) (sym ef) may_failed) failed_node (omega (arith, failed_grown, ef)) (omega (arith, held_grown));
+    }
+
+-- ---- what the next part is asked behind parts that told no case
+
+module _ (b : Bool) (s : Sought) (text : Entry) (name : List ℕ) where
+  pub still_undecided : (such more spare : ℕ) → IsSpare b s such spare → more ≤ spare → (IsDecided b s such → ⊥) → IsDecided b s (such + more) → ⊥
+  still_undecided such more spare few within none d = ⊎_elim
+      (λ less. let l = few less in let e = d.enough in omega (arith, l, e, within))
+      (λ reached. none (record { enough = reached; other = d.other }))
+      (cases_lt such (enough_of b s.least s.number))
+
+  pub may_count : (such others more spare : ℕ) → IsSpare b s such spare → more ≤ spare → (IsDecided b s such → ⊥) → (more ≡ 0) ⊎ (asks_for b s such others ≡ false) → MayCount b s such others more
+  may_count such others more spare few within none unsought = record {
+    unsought = unsought;
+    barely = λ t. let l = few (few_such b s such none t) in omega (arith, l, within);
+  }
+
+  pub still_unasked : (such others more further : ℕ) → asks_for b s such others ≡ false → asks_for b s (such + more) (others + further) ≡ false
+  still_unasked such others more further e = grind (arith, nat_tests)
+
+  pub still_asked : (such others further : ℕ) → (others < enough_of (not b) s.least s.number → others + further < enough_of (not b) s.least s.number) → asks_for b s such others ≡ true → asks_for b s such (others + further) ≡ true
+  still_asked such others further few e =
+      let x = so_asked b s text name such others e in
+      ⊎_elim
+      (λ t. let less = (x.1 t).0 in let room = few (x.1 t).1 in grind (arith, nat_tests))
+      (λ t. let w = x.0 in grind arith)
+      (either_way s.turns)
+
+pub unsought_for : (b x y : Bool) (a : Option (Option Bool)) → asked_by x y ≡ a → IsUnsought b a → cond b x y ≡ false
+unsought_for true true true a e u = absurd (⊎_elim (λ n. cc) (λ o. cc) u)
+unsought_for true true false a e u = absurd (⊎_elim (λ n. cc) (λ o. cc) u)
+unsought_for true false y a e u = refl
+unsought_for false true true a e u = absurd (⊎_elim (λ n. cc) (λ o. cc) u)
+unsought_for false false true a e u = absurd (⊎_elim (λ n. cc) (λ o. cc) u)
+unsought_for false x false a e u = refl
