@@ -1,8 +1,8 @@
 -- A tally of members, each with formulas of its own.
-use Rattle.std.proofs.Common.{◌≡◌, ℕ, zero, suc, ◌+◌, ◌<◌, ◌≤◌, Bool, true, false, Option, List, [], ◌∷◌, ◌++◌, Some, None, length, length-append, take, drop, get_or, refl, sym, ap, ◌∙◌, subst, arith, inl, inr, ⊎_elim}
+use Rattle.std.proofs.Common.{◌≡◌, ◌⊎◌, ℕ, zero, suc, ◌+◌, ◌-◌, ◌<◌, ◌≤◌, Bool, true, false, Option, List, [], ◌∷◌, ◌++◌, Some, None, length, length-append, take, drop, get_or, refl, sym, ap, ◌∙◌, subst, arith, inl, inr, ⊎_elim}
 use Rattle.std.specs.Prelude.{not, cond, Result, Ok, Err, IfOk}
 use mathlib.Core.Bool.{beq}
-use Rattle.std.proofs.lemmas.List.{take_more, take_all, take-append-drop}
+use Rattle.std.proofs.lemmas.List.{take_more, take_all, take-append-drop, get_or-drop, length-drop}
 use Rattle.std.proofs.Math.Seq.{take-add}
 use Rattle.predicates_core.specs.Formula.{Formula, AtLeast, enough_of, one_if, truth, HasTruth}
 use Rattle.predicates_core.specs.Kinds.{Kind}
@@ -10,10 +10,13 @@ use Rattle.predicates_core.specs.Label.{Entry, plain}
 use Rattle.predicates_core.specs.Leaves.{IsExactly}
 use Rattle.predicates_core.specs.Several.{formulas_of}
 use Rattle.predicates_core.specs.Shows.{IsFoundBy}
-use Rattle.predicates_core.specs.Tally.{kind_of, IsDone, IsTally, Takes, Counts, Answers, AreOf, IsTallyOf, AreCounted, count_like}
+use Rattle.predicates_core.specs.Tally.{kind_of, held_of, IsUnsought, MayCount, IsDone, IsTally, Takes, Counts, Answers, AreOf, IsTallyOf, AreCounted, IsAt, ArePassed, EndsFront, IsFront, IsNext, count_like}
+use Rattle.predicates_core.specs.Asked.{is_other}
 use Rattle.predicates_core.specs.Thresholds.{IsSettled, settled, IsOfThreshold}
 use Rattle.predicates_core.specs.declared.custom.tally.Sought.{Sought}
 use Rattle.predicates_core.specs.declared.custom.tally.Tally.{Tally}
+use Rattle.predicates_core.specs.declared.custom.tally.Told.{Told}
+use Rattle.predicates_core.specs.declared.custom.tally.Verdicts.{Verdicts}
 use Rattle.predicates_core.proofs.Fewer.{fewer_found}
 use Rattle.predicates_core.proofs.Found.{Found}
 use Rattle.predicates_core.proofs.Several.{are_formulas}
@@ -25,6 +28,17 @@ use Rattle.predicates_core.proofs.Values.{not-not}
 -- a part whose truth alone was asked
 pub verdict_told : (q : Kind) {F : Formula → Type 0} {h : Bool} → HasTruth F h → IsFoundBy q F (Some (not h)) None
 verdict_told q {F} {h} t = subst (HasTruth F) (sym (not-not h)) t
+
+-- of the members at the front that do not have the verdict no case is sought
+pub front_may : (expected : Bool) (s : Sought) (held failed : ℕ) (spare passed : Verdicts) → s.wanted ≡ Some expected → s.number ≤ enough_of (not expected) s.least s.number → spare.held ≡ held_of (not expected) s.number → spare.failed ≡ held_of (not (not expected)) s.number → passed.held ≤ spare.held → passed.failed ≤ spare.failed → held ≡ 0 → failed ≡ 0 → MayCount true s held failed passed.held × MayCount false s failed held passed.failed
+front_may true s held failed spare passed wanted alone eh ef few_held few_failed none_held none_failed = (
+  record { unsought = inl (omega (arith, few_held, eh)); barely = λ t. omega (arith, few_held, eh, none_held) },
+  record { unsought = inr (rw wanted refl); barely = λ t. omega (arith, few_failed, ef, none_failed, alone) },
+)
+front_may false s held failed spare passed wanted alone eh ef few_held few_failed none_held none_failed = (
+  record { unsought = inr (rw wanted refl); barely = λ t. omega (arith, few_held, eh, none_held, alone) },
+  record { unsought = inl (omega (arith, few_failed, ef)); barely = λ t. omega (arith, few_failed, ef, none_failed) },
+)
 
 -- what is found of each formula is found of all
 found_of_each : (q : Kind) {F : Formula → Type 0} (w : Option Bool) (found : Found) → ((f : Formula) → F f → IsFoundBy q (IsExactly f) w found) → IsFoundBy q F w found
@@ -115,9 +129,85 @@ module _ {U : Type 0} (has : U → Formula → Type 0) where
       both true fs h = h.0
       both false fs h = h.1
 
+  -- the member behind the front decides
+  pub front_decides : (b : Bool) {text : Entry} {name : List ℕ} (us : List U) (spare passed : Verdicts) (k : ℕ) → 1 ≤ k → k ≤ length us → spare.held ≡ k - 1 → spare.failed ≡ length us - k → IsFront has spare us passed (Some b) → HasTruth (IsOfThreshold k text name has us) b
+  front_decides true us spare passed k some within eh ef h =
+      let x = h.ends.1 in
+      let full = h.ends.0 in
+      counted_truth true us (passed.held + passed.failed + 1) (suc passed.held) passed.failed k some within
+      (counted_next true us (passed.held + passed.failed) x.0 passed.held passed.failed (suc passed.held) passed.failed x.1 x.2 h.passed_are.counted x.3 (omega arith) (omega arith))
+      (omega (arith, full, eh, some))
+  front_decides false us spare passed k some within eh ef h =
+      let x = h.ends.1 in
+      let full = h.ends.0 in
+      counted_truth false us (passed.held + passed.failed + 1) passed.held (suc passed.failed) k some within
+      (counted_next false us (passed.held + passed.failed) x.0 passed.held passed.failed passed.held (suc passed.failed) x.1 x.2 h.passed_are.counted x.3 (omega arith) (omega arith))
+      (omega (arith, full, ef, within))
+
+  module _ (q : Kind) (spare : Verdicts) (us : List U) (passed : Verdicts) where
+    -- members whose verdicts alone were asked
+    pub next_verdict : (b : Bool) (t : Told) → IsFront has spare us passed (Some b) → t.asked ≡ Some (not b) → t.found ≡ None → IsNext q has None spare us passed (Some t)
+    next_verdict b t h asked none = record {
+      passed_are = h.passed_are;
+      held = inr (inl refl);
+      failed = inr (inl refl);
+      ends = let x = ends_at b h.ends in (none, (x.0, x.1, x.2, rw (asked, none) (verdict_told q x.3)));
+    }
+      where
+        ends_at : (b : Bool) → EndsFront has spare us passed (Some b) → IsAt us (passed.held + passed.failed) (λ u. HasTruth (has u) b)
+        ends_at true e = e.1
+        ends_at false e = e.1
+
+    pub next_none : IsFront has spare us passed None → IsNext q has None spare us passed None
+    next_none h = record { passed_are = h.passed_are; held = inr (inl refl); failed = inr (inl refl); ends = h.ends }
+
+    -- members that were asked for their cases
+    passed_by : (o : Bool) (p : ℕ) → passed.held ≡ held_of o p → passed.failed ≡ held_of (not o) p → AreCounted has (take p us) (held_of o p) (held_of (not o) p) → p ≤ cond o spare.held spare.failed → ArePassed has spare us passed × (passed.held + passed.failed ≡ p)
+    passed_by true p eh ef h few =
+        let sum : passed.held + passed.failed ≡ p = omega (arith, eh, ef) in
+        (record { counted = rw (sum, eh, ef) h; held = omega (arith, eh, few); failed = omega (arith, ef) }, sum)
+    passed_by false p eh ef h few =
+        let sum : passed.held + passed.failed ≡ p = omega (arith, eh, ef) in
+        (record { counted = rw (sum, eh, ef) h; held = omega (arith, eh); failed = omega (arith, ef, few) }, sum)
+
+    unsought_by : (asked : Option Bool) (o : Bool) (p : ℕ) → o ≡ is_other asked true → passed.held ≡ held_of o p → passed.failed ≡ held_of (not o) p → (asked ≡ None → p ≡ 0) → ((passed.held ≡ 0) ⊎ IsUnsought true (Some asked)) × ((passed.failed ≡ 0) ⊎ IsUnsought false (Some asked))
+    unsought_by None true p e eh ef none = absurd (cc)
+    unsought_by None false p e eh ef none = let z = none refl in (inl (omega (arith, eh)), inl (omega (arith, ef, z)))
+    unsought_by (Some true) true p e eh ef none = absurd (cc)
+    unsought_by (Some true) false p e eh ef none = (inl (omega (arith, eh)), inr (inr refl))
+    unsought_by (Some false) true p e eh ef none = (inr (inr refl), inl (omega (arith, ef)))
+    unsought_by (Some false) false p e eh ef none = absurd (cc)
+
+    module _ (asked : Option Bool) (o : Bool) (p : ℕ) (other : o ≡ is_other asked true) (held_is : passed.held ≡ held_of o p) (failed_is : passed.failed ≡ held_of (not o) p) (h : AreCounted has (take p us) (held_of o p) (held_of (not o) p)) (few : p ≤ cond o spare.held spare.failed) (none : asked ≡ None → p ≡ 0) where
+      pub next_shown : (t : Told) (u : U) → t.asked ≡ asked → p < length us → u ≡ get_or us p u → IsFoundBy q (has u) asked t.found → IsNext q has (Some asked) spare us passed (Some t)
+      next_shown t u as_asked before is found =
+          let x = passed_by o p held_is failed_is h few in
+          let w = unsought_by asked o p other held_is failed_is none in
+          let sum = x.1 in
+          record { passed_are = x.0; held = w.0; failed = w.1; ends = (as_asked, (u, omega (arith, before, sum), rw sum is, rw as_asked found)) }
+
+      pub next_all : length us ≤ p → IsNext q has (Some asked) spare us passed None
+      next_all all =
+          let x = passed_by o p held_is failed_is h few in
+          let w = unsought_by asked o p other held_is failed_is none in
+          let sum = x.1 in
+          record { passed_are = x.0; held = w.0; failed = w.1; ends = omega (arith, all, sum) }
+
+  -- one more that has the other verdict
+  pub passed_next : (q : Kind) (asked : Option Bool) (o : Bool) (us : List U) (j : ℕ) (u : U) (p p' : ℕ) (found : Found) → o ≡ is_other asked true → j < length us → u ≡ get_or us j u → AreCounted has (take j us) (held_of o p) (held_of (not o) p) → IsFoundBy q (has u) asked found → found ≡ None → (asked ≡ None → ⊥) → p' ≡ p + 1 → AreCounted has (take (j + 1) us) (held_of o p') (held_of (not o) p')
+  passed_next q None o us j u p p' found other before is h x none some next = absurd (some refl)
+  passed_next q (Some b) o us j u p p' (Some t) other before is h x none some next = absurd (cc)
+  passed_next q (Some true) true us j u p p' None other before is h x none some next = absurd (cc)
+  passed_next q (Some true) false us j u p p' None other before is h x none some next = counted_next false us j u 0 p 0 p' before is h x (omega arith) (omega (arith, next))
+  passed_next q (Some false) true us j u p p' None other before is h x none some next = counted_next true us j u p 0 p' 0 before is h x (omega (arith, next)) (omega arith)
+  passed_next q (Some false) false us j u p p' None other before is h x none some next = absurd (cc)
+
   module _ (s : Sought) (text : Entry) (name : List ℕ) where
     pub tally_none : (t : Tally) → t.sought ≡ s → t.seen ≡ 0 → IsTally text name [] t → IsTallyOf s text name has [] t
     tally_none t sought seen h = record { sought_is = sought; seen = seen; at = λ fs of. subst (λ z. IsTally text name z t) (sym (none_of fs of)) h }
+
+    pub tally_begun : (us : List U) (t : Tally) → t.sought ≡ s → t.seen ≡ 0 → IsTally text name [] t → IsTallyOf s text name has (take t.seen us) t
+    tally_begun us t sought seen h = subst (λ n. IsTallyOf s text name has (take n us) t) (sym seen) (tally_none t sought seen h)
 
     -- one member more, of which this was told
     pub tally_next : (us : List U) {j : ℕ} {u : U} (old new : Tally) (asked : Option Bool) (found : Found) → j < length us → u ≡ get_or us j u → IsTallyOf s text name has (take j us) old → new.sought ≡ old.sought → new.seen ≡ suc old.seen → Takes text name asked found old new → IsFoundBy (kind_of s.turns) (has u) asked found → IsTallyOf s text name has (take (j + 1) us) new
@@ -144,6 +234,19 @@ module _ {U : Type 0} (has : U → Formula → Type 0) where
               let c = k.at p.1 p.3 in
               subst (λ z. IsTally text name z new) (sym p.4) (counts p.0 p.1 (h.at p.0 p.2) c.0 c.1);
         }
+
+    pub tally_front : (us : List U) (old mid : Tally) (spare passed : Verdicts) → IsTallyOf s text name has (take old.seen us) old → ArePassed has spare (drop old.seen us) passed → mid.sought ≡ old.sought → mid.seen ≡ old.seen + (passed.held + passed.failed) → Counts text name passed.held passed.failed old mid → IsTallyOf s text name has (take mid.seen us) mid
+    tally_front us old mid spare passed h p sought seen counts = subst (λ n. IsTallyOf s text name has (take n us) mid) (sym seen) (tally_counted us old.seen old mid passed.held passed.failed h p.counted sought seen counts)
+
+    -- the member behind them
+    pub tally_behind : (us : List U) (mid new : Tally) (seen n : ℕ) (t : Told) → IsTallyOf s text name has (take mid.seen us) mid → mid.seen ≡ seen + n → IsAt (drop seen us) n (λ u. IsFoundBy (kind_of s.turns) (has u) t.asked t.found) → new.sought ≡ mid.sought → new.seen ≡ suc mid.seen → Takes text name t.asked t.found mid new → IsTallyOf s text name has (take new.seen us) new
+    tally_behind us mid new seen n t h at x sought next takes =
+        let rest = length-drop seen us in
+        let few = x.1 in
+        let before : mid.seen < length us = omega (arith, few, rest, at) in
+        let is : x.0 ≡ get_or us mid.seen x.0 = x.2 ∙ get_or-drop seen us n x.0 ∙ ap (λ k. get_or us k x.0) (sym at) in
+        let one : mid.seen + 1 ≡ new.seen = omega (arith, next) in
+        subst (λ k. IsTallyOf s text name has (take k us) new) one (tally_next us mid new t.asked t.found before is h sought next takes x.3)
 
     -- all members were seen
     pub tally_full : (us : List U) (j : ℕ) (t : Tally) → length us ≡ s.number → length us ≤ j → IsTallyOf s text name has (take j us) t → IsDone t

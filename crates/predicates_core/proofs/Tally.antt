@@ -1,6 +1,6 @@
 -- A tally of parts: of one part more, and what is found of the whole.
 use Rattle.std.proofs.Common.{◌≡◌, ◌⊎◌, ℕ, suc, ◌+◌, ◌<◌, ◌≤◌, ◌^◌, Bool, true, false, Option, List, [], ◌∷◌, ◌++◌, Some, None, length-append, map, length, refl, sym, ap, ◌∙◌, subst, arith, inl, inr, ⊎_elim}
-use Rattle.std.specs.Prelude.{not, ◌&&◌, ◌||◌, nat_lt, cond, option_map}
+use Rattle.std.specs.Prelude.{not, ◌&&◌, ◌||◌, nat_lt, cond, min, ◌-◌, option_map}
 use Rattle.std.proofs.lemmas.Bool.{cases_lt}
 use Rattle.std.proofs.lemmas.Bool.Decides.{nat_tests}
 use Rattle.std.proofs.lemmas.List.{map-append}
@@ -18,6 +18,7 @@ use Rattle.predicates_core.specs.Tally.{kind_of, asks_for, asked_by, IsAsked, Is
 use Rattle.predicates_core.specs.declared.custom.tally.Kept.{Kept}
 use Rattle.predicates_core.specs.declared.custom.tally.Sought.{Sought}
 use Rattle.predicates_core.specs.declared.custom.tally.Tally.{Tally}
+use Rattle.predicates_core.specs.declared.custom.tally.Verdicts.{Verdicts}
 use Rattle.predicates_core.proofs.Thresholds.{either, one_like, none_like}
 use Rattle.predicates_core.proofs.Values.{not-not}
 use Rattle.predicates_core.proofs.Found.{Found, truth_found, case_found}
@@ -269,34 +270,85 @@ counts_more text name t held failed seen h f may_held may_failed next fits held_
 
 -- ---- what the next part is asked behind parts that told no case
 
+some_pass : (x t y z y' z' : Bool) → (not x && (not t || (y && z))) ≡ true → (y ≡ true → y' ≡ true) → (z ≡ true → z' ≡ true) → (not x && (not t || (y' && z'))) ≡ true
+some_pass true t y z y' z' e p q = absurd (cc)
+some_pass false false y z y' z' e p q = refl
+some_pass false true true true y' z' e p q = rw (p refl, q refl) refl
+some_pass false true true false y' z' e p q = absurd (cc)
+some_pass false true false z y' z' e p q = absurd (cc)
+
+none_pass : (x t y z y' z' : Bool) → (not x && (not t || (y && z))) ≡ false → (y ≡ false → y' ≡ false) → (z ≡ false → z' ≡ false) → (not x && (not t || (y' && z'))) ≡ false
+none_pass true t y z y' z' e p q = refl
+none_pass false false y z y' z' e p q = absurd (cc)
+none_pass false true true true y' z' e p q = absurd (cc)
+none_pass false true true false true z' e p q = q refl
+none_pass false true true false false z' e p q = refl
+none_pass false true false z y' z' e p q = rw (p refl) refl
+
 module _ (b : Bool) (s : Sought) (text : Entry) (name : List ℕ) where
-  pub still_undecided : (such more spare : ℕ) → IsSpare b s such spare → more ≤ spare → (IsDecided b s such → ⊥) → IsDecided b s (such + more) → ⊥
-  still_undecided such more spare few within none d = ⊎_elim
-      (λ less. let l = few less in let e = d.enough in omega (arith, l, e, within))
+  still_undecided : (such more spare grown : ℕ) → IsSpare b s such spare → more ≤ spare → grown ≤ such + more → (IsDecided b s such → ⊥) → IsDecided b s grown → ⊥
+  still_undecided such more spare grown few within most none d = ⊎_elim
+      (λ less. let l = few less in let e = d.enough in omega (arith, l, e, within, most))
       (λ reached. none (record { enough = reached; other = d.other }))
       (cases_lt such (enough_of b s.least s.number))
 
-  pub may_count : (such others more spare : ℕ) → IsSpare b s such spare → more ≤ spare → (IsDecided b s such → ⊥) → (more ≡ 0) ⊎ (asks_for b s such others ≡ false) → MayCount b s such others more
+  may_count : (such others more spare : ℕ) → IsSpare b s such spare → more ≤ spare → (IsDecided b s such → ⊥) → (more ≡ 0) ⊎ (asks_for b s such others ≡ false) → MayCount b s such others more
   may_count such others more spare few within none unsought = record {
     unsought = unsought;
     barely = λ t. let l = few (few_such b s such none t) in omega (arith, l, within);
   }
 
-  pub still_unasked : (such others more further : ℕ) → asks_for b s such others ≡ false → asks_for b s (such + more) (others + further) ≡ false
-  still_unasked such others more further e = grind (arith, nat_tests)
+  -- the next is asked for a case of the truth as before
+  still_same : (such others more further such' others' : ℕ) → enough_of (not b) s.least s.number < 2 ^ 64 → such' ≡ min (such + more) (2 ^ 64 - 1) → others' ≡ min (others + further) (2 ^ 64 - 1) → (more ≡ 0) ⊎ (asks_for b s such others ≡ false) → (others < enough_of (not b) s.least s.number → others + further < enough_of (not b) s.least s.number) → asks_for b s such' others' ≡ asks_for b s such others
+  still_same such others more further such' others' fits es eo unsought few = ⊎_elim
+      (λ yes. some_pass (is_other s.wanted b) s.turns (nat_lt such room') (nat_lt others room') (nat_lt such' room') (nat_lt others' room') yes
+      (λ l. let less : such < room' = grind (arith, nat_tests) in let none : more ≡ 0 = ⊎_elim (λ n. n) (λ e. absurd (cc)) unsought in let still : such' < room' = omega (arith, less, none, es) in grind (arith, nat_tests))
+      (λ l. let less : others < room' = grind (arith, nat_tests) in let still : others' < room' = let m = few less in omega (arith, m, eo) in grind (arith, nat_tests)) ∙ sym yes)
+      (λ no. none_pass (is_other s.wanted b) s.turns (nat_lt such room') (nat_lt others room') (nat_lt such' room') (nat_lt others' room') no
+      (λ l. let full : room' ≤ such = grind (arith, nat_tests) in let still : room' ≤ such' = omega (arith, full, fits, es) in grind (arith, nat_tests))
+      (λ l. let full : room' ≤ others = grind (arith, nat_tests) in let still : room' ≤ others' = omega (arith, full, fits, eo) in grind (arith, nat_tests)) ∙ sym no)
+      (either_way (asks_for b s such others))
+    where
+      room' : ℕ
+      room' = enough_of (not b) s.least s.number
 
-  pub still_asked : (such others further : ℕ) → (others < enough_of (not b) s.least s.number → others + further < enough_of (not b) s.least s.number) → asks_for b s such others ≡ true → asks_for b s such (others + further) ≡ true
-  still_asked such others further few e =
-      let x = so_asked b s text name such others e in
-      ⊎_elim
-      (λ t. let less = (x.1 t).0 in let room = few (x.1 t).1 in grind (arith, nat_tests))
-      (λ t. let w = x.0 in grind arith)
-      (either_way s.turns)
-
-pub unsought_for : (b x y : Bool) (a : Option (Option Bool)) → asked_by x y ≡ a → IsUnsought b a → cond b x y ≡ false
+unsought_for : (b x y : Bool) (a : Option (Option Bool)) → asked_by x y ≡ a → IsUnsought b a → cond b x y ≡ false
 unsought_for true true true a e u = absurd (⊎_elim (λ n. cc) (λ o. cc) u)
 unsought_for true true false a e u = absurd (⊎_elim (λ n. cc) (λ o. cc) u)
 unsought_for true false y a e u = refl
 unsought_for false true true a e u = absurd (⊎_elim (λ n. cc) (λ o. cc) u)
 unsought_for false false true a e u = absurd (⊎_elim (λ n. cc) (λ o. cc) u)
 unsought_for false x false a e u = refl
+
+-- a tally, and the same with so many more parts
+module _ (text : Entry) (name : List ℕ) (t : Tally) (may : IsOpen t) (spare passed : Verdicts) (spare_held : IsSpare true t.sought t.held.count spare.held) (spare_failed : IsSpare false t.sought t.failed.count spare.failed) (few_held : passed.held ≤ spare.held) (few_failed : passed.failed ≤ spare.failed) (asked : Option (Option Bool)) (asks_is : asked_by (asks_for true t.sought t.held.count t.failed.count) (asks_for false t.sought t.failed.count t.held.count) ≡ asked) (held_unsought : (passed.held ≡ 0) ⊎ IsUnsought true asked) (failed_unsought : (passed.failed ≡ 0) ⊎ IsUnsought false asked) where
+  no_held : (passed.held ≡ 0) ⊎ (asks_for true t.sought t.held.count t.failed.count ≡ false)
+  no_held = ⊎_elim (λ none. inl none) (λ u. inr (unsought_for true _ _ asked asks_is u)) held_unsought
+
+  no_failed : (passed.failed ≡ 0) ⊎ (asks_for false t.sought t.failed.count t.held.count ≡ false)
+  no_failed = ⊎_elim (λ none. inl none) (λ u. inr (unsought_for false _ _ asked asks_is u)) failed_unsought
+
+  pub may_held : MayCount true t.sought t.held.count t.failed.count passed.held
+  may_held = may_count true t.sought text name t.held.count t.failed.count passed.held spare.held spare_held few_held may.held no_held
+
+  pub may_failed : MayCount false t.sought t.failed.count t.held.count passed.failed
+  may_failed = may_count false t.sought text name t.failed.count t.held.count passed.failed spare.failed spare_failed few_failed may.failed no_failed
+
+  module _ (new : Tally) (fits : t.sought.number < 2 ^ 64) (sought : new.sought ≡ t.sought) (absent : new.absent ≡ t.absent) (next : new.seen < t.sought.number) (held : new.held.count ≡ min (t.held.count + passed.held) (2 ^ 64 - 1)) (failed : new.failed.count ≡ min (t.failed.count + passed.failed) (2 ^ 64 - 1)) where
+    pub still_open : IsOpen new
+    still_open = record {
+      present = absent ∙ may.present;
+      next = subst (λ s. new.seen < s.number) (sym sought) next;
+      some = subst (λ s. 1 ≤ s.least) (sym sought) may.some;
+      within = subst (λ s. s.least ≤ s.number) (sym sought) may.within;
+      held = λ d. still_undecided true t.sought text name t.held.count passed.held spare.held new.held.count spare_held few_held (omega (arith, held)) may.held (subst (λ s. IsDecided true s new.held.count) sought d);
+      failed = λ d. still_undecided false t.sought text name t.failed.count passed.failed spare.failed new.failed.count spare_failed few_failed (omega (arith, failed)) may.failed (subst (λ s. IsDecided false s new.failed.count) sought d);
+    }
+
+    pub still_asks : asked_by (asks_for true new.sought new.held.count new.failed.count) (asks_for false new.sought new.failed.count new.held.count) ≡ asked
+    still_asks =
+        let some = may.some in
+        let within = may.within in
+        let x = still_same true t.sought text name t.held.count t.failed.count passed.held passed.failed new.held.count new.failed.count (omega (arith, some, within, fits)) held failed no_held (λ less. let l = spare_failed less in omega (arith, l, few_failed)) in
+        let y = still_same false t.sought text name t.failed.count t.held.count passed.failed passed.held new.failed.count new.held.count (omega (arith, some, within, fits)) failed held no_failed (λ less. let l = spare_held less in omega (arith, l, few_held)) in
+        ap (λ s. asked_by (asks_for true s new.held.count new.failed.count) (asks_for false s new.failed.count new.held.count)) sought ∙ (λ i. asked_by (x i) (y i)) ∙ asks_is

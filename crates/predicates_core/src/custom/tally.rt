@@ -17,7 +17,7 @@
 //! tally.answer(alloc, list)
 //! ```
 ghost use Rattle.std.specs.Prelude.{◌≡◌, ◌<◌, ◌≤◌, ◌-◌, ◌+◌, ◌^◌, ℕ, List, [], suc, true, false};
-ghost use Rattle.std.specs.Prelude.{not, option_map, IfOk};
+ghost use Rattle.std.specs.Prelude.{cond, min, not, option_map, IfOk};
 ghost use Rattle.predicates_core.specs.Describe.{with_first_children};
 ghost use Rattle.predicates_core.specs.Formula.{enough_of};
 ghost use Rattle.predicates_core.specs.Label.{Entry};
@@ -90,6 +90,13 @@ impl Verdicts {
             failed: if verdict { 0 } else { number },
         }
     }
+
+    // How many have the verdict.
+    pub(super) fn with(self, verdict: bool) -> usize
+        ensures { result ≡ cond verdict self.held self.failed }
+    {
+        if verdict { self.held } else { self.failed }
+    }
 }
 
 // The parts with one verdict: how many they are, and the node over the cases of the first of them.
@@ -115,6 +122,8 @@ impl Tally {
     pub fn new(sought: Sought) -> Tally
         ensures sought { result.sought ≡ sought }
         ensures seen { result.seen ≡ 0 }
+        ensures held { result.held.count ≡ 0 }
+        ensures failed { result.failed.count ≡ 0 }
         ensures tally { (text : Entry) (name : List ℕ) → IsTally text name [] result }
     {
         Tally {
@@ -225,10 +234,9 @@ impl Tally {
         ensures sought { self.new.sought ≡ self.old.sought }
         ensures absent { self.new.absent ≡ self.old.absent }
         ensures seen { self.new.seen ≡ self.old.seen + (more.held + more.failed) }
-        ensures held { self.old.held.count + more.held < 2 ^ 64
-            → self.new.held.count ≡ self.old.held.count + more.held }
-        ensures failed { self.old.failed.count + more.failed < 2 ^ 64
-            → self.new.failed.count ≡ self.old.failed.count + more.failed }
+        ensures held { self.new.held.count ≡ min (self.old.held.count + more.held) (2 ^ 64 - 1) }
+        ensures failed { self.new.failed.count
+            ≡ min (self.old.failed.count + more.failed) (2 ^ 64 - 1) }
         ensures counts { (text : Entry) (name : List ℕ)
             → Counts text name more.held more.failed self.old self.new }
     {

@@ -257,7 +257,7 @@ fn next_asked<K: Seeks, A: AskFor<K, Common, Member>, Common, Member>(
         spare members.now next.passed next.told) }
 {
     let other = is_other(asked, true);
-    let most = if other { spare.held } else { spare.failed };
+    let most = spare.with(other);
     let mut passed = 0usize;
     for member in members {
         let found = A::find(alloc, common, asked, member)?;
@@ -330,9 +330,9 @@ fn counted_on<K: Seeks, W: fmt::Display, A: AskFor<K, Common, Member>, Common, M
 ) -> Result<Option<Case>, AllocError>
     requires lawful { AllByRecursion (A.lawful_of common.now) members.now }
     requires turns { tally.sought.turns ≡ K.turns }
-    requires least { tally.sought.least ≡ list.entry.least }
+    requires least { tally.sought.least ≡ list.least }
     requires number { tally.sought.number ≡ length members.now }
-    requires tally { IsTallyOf tally.sought (W.output list.entry.whole.now) list.entry.name.now
+    requires tally { IsTallyOf tally.sought (W.output list.whole.now) list.name.now
         (A.formula_of common.now) (take tally.seen members.now) tally }
     ensures { IfOk result (IsFoundBy (kind_of K.turns) (IsOfThreshold list.entry.least
         (W.output list.entry.whole.now) list.entry.name.now
@@ -357,7 +357,7 @@ fn count_next<K: Seeks, W: fmt::Display, A: AskFor<K, Common, Member>, Common, M
     requires open { IsOpen tally.old }
     requires turns { tally.old.sought.turns ≡ K.turns }
     requires number { tally.old.sought.number ≡ length members.now }
-    requires tally { IsTallyOf tally.old.sought (W.output list.entry.whole.now) list.entry.name.now
+    requires tally { IsTallyOf tally.old.sought (W.output list.whole.now) list.name.now
         (A.formula_of common.now) (take tally.old.seen members.now) tally.old }
     ensures seen { IfOk result (λ _. tally.old.seen < tally.new.seen) }
     ensures tally { IfOk result (λ _. IsTallyOf tally.old.sought (W.output list.entry.whole.now)
@@ -368,7 +368,10 @@ fn count_next<K: Seeks, W: fmt::Display, A: AskFor<K, Common, Member>, Common, M
     let next = next_told::<K, A, Common, Member>(alloc, common, asks, tally.spare(), rest)?;
     tally.count(next.passed);
     match next.told {
-        Some(told) => tally.take(alloc, list, told),
+        Some(told) => {
+            tally.take(alloc, list, told)?;
+            Ok(())
+        }
         None => Ok(()),
     }
 }
