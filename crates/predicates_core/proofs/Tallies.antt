@@ -1,5 +1,6 @@
 -- A tally of members, each with formulas of its own.
 use Rattle.std.proofs.Common.{◌≡◌, ◌⊎◌, ℕ, zero, suc, ◌+◌, ◌-◌, ◌<◌, ◌≤◌, Bool, true, false, Option, List, [], ◌∷◌, ◌++◌, Some, None, length, length-append, take, drop, get_or, refl, sym, ap, ◌∙◌, subst, arith, inl, inr, ⊎_elim}
+use Rattle.std.proofs.lemmas.Bool.Decides.{nat_tests}
 use Rattle.std.specs.Prelude.{not, cond, Result, Ok, Err, IfOk}
 use mathlib.Core.Bool.{beq}
 use Rattle.std.proofs.lemmas.List.{take_more, take_all, take-append-drop, get_or-drop, length-drop}
@@ -22,7 +23,7 @@ use Rattle.predicates_core.proofs.Found.{Found}
 use Rattle.predicates_core.proofs.Several.{are_formulas}
 use Rattle.predicates_core.proofs.Tally.{count_joined}
 use Rattle.predicates_core.proofs.TallyAnswers.{listed, count_front, truth_of_whole}
-use Rattle.predicates_core.proofs.ThresholdCases.{settled_or_not}
+use Rattle.predicates_core.proofs.ThresholdCases.{settled_or_not, HasTruth-settled}
 use Rattle.predicates_core.proofs.Values.{not-not}
 
 -- a part whose truth alone was asked
@@ -30,13 +31,13 @@ pub verdict_told : (q : Kind) {F : Formula → Type 0} {h : Bool} → HasTruth F
 verdict_told q {F} {h} t = subst (HasTruth F) (sym (not-not h)) t
 
 -- of the members at the front that do not have the verdict no case is sought
-pub front_may : (expected : Bool) (s : Sought) (held failed : ℕ) (spare passed : Verdicts) → s.wanted ≡ Some expected → s.number ≤ enough_of (not expected) s.least s.number → spare.held ≡ held_of (not expected) s.number → spare.failed ≡ held_of (not (not expected)) s.number → passed.held ≤ spare.held → passed.failed ≤ spare.failed → held ≡ 0 → failed ≡ 0 → MayCount true s held failed passed.held × MayCount false s failed held passed.failed
-front_may true s held failed spare passed wanted alone eh ef few_held few_failed none_held none_failed = (
+pub front_may : (expected : Bool) (s : Sought) (held failed n : ℕ) (spare passed : Verdicts) → s.wanted ≡ Some expected → s.number ≡ n → s.least ≡ cond expected 1 n → spare.held ≡ held_of (not expected) n → spare.failed ≡ held_of (not (not expected)) n → passed.held ≤ spare.held → passed.failed ≤ spare.failed → held ≡ 0 → failed ≡ 0 → MayCount true s held failed passed.held × MayCount false s failed held passed.failed
+front_may true s held failed n spare passed wanted number alone eh ef few_held few_failed none_held none_failed = (
   record { unsought = inl (omega (arith, few_held, eh)); barely = λ t. omega (arith, few_held, eh, none_held) },
-  record { unsought = inr (rw wanted refl); barely = λ t. omega (arith, few_failed, ef, none_failed, alone) },
+  record { unsought = inr (rw wanted refl); barely = λ t. omega (arith, few_failed, ef, none_failed, number, alone) },
 )
-front_may false s held failed spare passed wanted alone eh ef few_held few_failed none_held none_failed = (
-  record { unsought = inr (rw wanted refl); barely = λ t. omega (arith, few_held, eh, none_held, alone) },
+front_may false s held failed n spare passed wanted number alone eh ef few_held few_failed none_held none_failed = (
+  record { unsought = inr (rw wanted refl); barely = λ t. omega (arith, few_held, eh, none_held, number, alone) },
   record { unsought = inl (omega (arith, few_failed, ef)); barely = λ t. omega (arith, few_failed, ef, none_failed) },
 )
 
@@ -192,6 +193,23 @@ module _ {U : Type 0} (has : U → Formula → Type 0) where
           let w = unsought_by asked o p other held_is failed_is none in
           let sum = x.1 in
           record { passed_are = x.0; held = w.0; failed = w.1; ends = omega (arith, all, sum) }
+
+  -- no member has the verdict that one decides
+  pub none_decides : (expected : Bool) {text : Entry} {name : List ℕ} (us : List U) (spare passed : Verdicts) (k : ℕ) → k ≡ cond expected 1 (length us) → spare.held ≡ held_of (not expected) (length us) → spare.failed ≡ held_of (not (not expected)) (length us) → IsFront has spare us passed None → HasTruth (IsOfThreshold k text name has us) (not expected)
+  none_decides true us spare passed k alone eh ef h =
+      let few = h.passed_are.held in
+      let all = h.ends in
+      ⊎_elim
+      (λ settles. HasTruth-settled false has k settles (let less : length us < k = ⊎_elim (λ none. absurd (omega (arith, none, alone))) (λ less. less) settles in grind (arith, nat_tests)))
+      (λ c. counted_truth false us (passed.held + passed.failed) passed.held passed.failed k c.0 c.1 h.passed_are.counted (omega (arith, few, all, eh, alone)))
+      (settled_or_not k (length us))
+  none_decides false us spare passed k alone eh ef h =
+      let few = h.passed_are.failed in
+      let all = h.ends in
+      ⊎_elim
+      (λ settles. HasTruth-settled true has k settles (let within : k ≤ length us = omega (arith, alone) in grind (arith, nat_tests)))
+      (λ c. counted_truth true us (passed.held + passed.failed) passed.held passed.failed k c.0 c.1 h.passed_are.counted (omega (arith, few, all, ef, alone)))
+      (settled_or_not k (length us))
 
   -- one more that has the other verdict
   pub passed_next : (q : Kind) (asked : Option Bool) (o : Bool) (us : List U) (j : ℕ) (u : U) (p p' : ℕ) (found : Found) → o ≡ is_other asked true → j < length us → u ≡ get_or us j u → AreCounted has (take j us) (held_of o p) (held_of (not o) p) → IsFoundBy q (has u) asked found → found ≡ None → (asked ≡ None → ⊥) → p' ≡ p + 1 → AreCounted has (take (j + 1) us) (held_of o p') (held_of (not o) p')

@@ -1,7 +1,7 @@
 //! Verdicts and cases of a list whose members are each asked, of which at least so many have to
 //! hold: all of them for `each`, one for `any`.
 ghost use Rattle.std.specs.Prelude.{◌≡◌, ◌≢◌, ◌<◌, ◌≤◌, ℕ, List, length, take, Some, None, true};
-ghost use Rattle.std.specs.Prelude.{false, not, codes, IfOk, IsOk, ⊤};
+ghost use Rattle.std.specs.Prelude.{false, cond, not, codes, IfOk, IsOk, ⊤};
 ghost use Rattle.std.specs.Fmt.{decimal};
 ghost use Rattle.std.specs.List.{AllByRecursion};
 ghost use Rattle.predicates_core.specs.Formula.{enough_of, Leaf, HasTruth};
@@ -158,52 +158,53 @@ pub(super) fn counted_case<W: fmt::Display, A: AskFor<Reasons, Common, Member>, 
         (W.output list.entry.whole.now) list.entry.name.now
         (A.formula_of common.now) members.now) expected) }
 {
-    let sought = Sought {
-        turns: false,
-        wanted: Some(expected),
-        least: list.least,
-        number: members.len(),
-    };
     if decides_alone(expected, list.least, members.len()) {
-        let tally = behind_front::<A, Common, Member>(alloc, common, sought, expected, members)?;
-        return counted_on::<Reasons, W, A, Common, Member>(alloc, list, common, tally, members);
+        return alone_case::<W, A, Common, Member>(alloc, list, common, expected, members);
     }
     if counted_hold::<A, Common, Member>(alloc, list.least, common, members)? != expected {
         return Ok(None);
     }
-    let tally = Tally::new(sought);
-    counted_on::<Reasons, W, A, Common, Member>(alloc, list, common, tally, members)
+    counted::<Reasons, W, A, Common, Member>(alloc, list, common, Some(expected), members)
 }
 
 // Whether one member with the verdict decides.
 fn decides_alone(verdict: bool, least: usize, number: usize) -> bool
-    ensures { result ≡ true → number ≤ enough_of (not verdict) least number }
+    ensures { result ≡ true → least ≡ cond verdict 1 number }
 {
     let one = if verdict { 1 } else { number };
     least == one
 }
 
-// The tally behind the members at the front that do not have the verdict, which one with it decides.
-fn behind_front<A: Ask<Common, Member>, Common, Member>(
+// The case of a verdict that one member decides: that of the first behind the front.
+fn alone_case<W: fmt::Display, A: AskFor<Reasons, Common, Member>, Common, Member>(
     alloc: Global,
+    list: Counting<'_, W>,
     common: &Common,
-    sought: Sought,
     expected: bool,
     members: &[Member],
-) -> Result<Tally, AllocError>
+) -> Result<Option<Case>, AllocError>
     requires lawful { AllByRecursion (A.lawful_of common.now) members.now }
-    requires wanted { sought.wanted ≡ Some expected }
-    requires number { sought.number ≡ length members.now }
-    requires alone { sought.number ≤ enough_of (not expected) sought.least sought.number }
-    ensures sought { IfOk result (λ tally. tally.sought ≡ sought) }
-    ensures tally { IfOk result (λ tally. (text : Entry) (name : List ℕ) → IsTallyOf sought text name
-        (A.formula_of common.now) (take tally.seen members.now) tally) }
+    requires alone { list.least ≡ cond expected 1 (length members.now) }
+    ensures { IfOk result (IsAnswer (IsOfThreshold list.entry.least
+        (W.output list.entry.whole.now) list.entry.name.now
+        (A.formula_of common.now) members.now) expected) }
 {
-    let mut tally = Tally::new(sought);
-    let spare = Verdicts::alike(!expected, members.len());
+    let number = members.len();
+    let spare = Verdicts::alike(!expected, number);
     let front = front_of::<A, Common, Member>(alloc, common, spare, members)?;
-    tally.count(front.passed);
-    Ok(tally)
+    match front.next {
+        Some(_) => {
+            let mut tally = Tally::new(Sought {
+                turns: false,
+                wanted: Some(expected),
+                least: list.least,
+                number,
+            });
+            tally.count(front.passed);
+            counted_on::<Reasons, W, A, Common, Member>(alloc, list, common, tally, members)
+        }
+        None => Ok(None),
+    }
 }
 
 // The members at the front that told no case, and what the one behind them told.
