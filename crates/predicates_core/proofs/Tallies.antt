@@ -145,55 +145,6 @@ module _ {U : Type 0} (has : U → Formula → Type 0) where
       (counted_next false us (passed.held + passed.failed) x.0 passed.held passed.failed passed.held (suc passed.failed) x.1 x.2 h.passed_are.counted x.3 (omega arith) (omega arith))
       (omega (arith, full, ef, within))
 
-  module _ (q : Kind) (spare : Verdicts) (us : List U) (passed : Verdicts) where
-    -- members whose verdicts alone were asked
-    pub next_verdict : (b : Bool) (t : Told) → IsFront has spare us passed (Some b) → t.asked ≡ Some (not b) → t.found ≡ None → IsNext q has None spare us passed (Some t)
-    next_verdict b t h asked none = record {
-      passed_are = h.passed_are;
-      held = inr (inl refl);
-      failed = inr (inl refl);
-      ends = let x = ends_at b h.ends in (none, (x.0, x.1, x.2, rw (asked, none) (verdict_told q x.3)));
-    }
-      where
-        ends_at : (b : Bool) → EndsFront has spare us passed (Some b) → IsAt us (passed.held + passed.failed) (λ u. HasTruth (has u) b)
-        ends_at true e = e.1
-        ends_at false e = e.1
-
-    pub next_none : IsFront has spare us passed None → IsNext q has None spare us passed None
-    next_none h = record { passed_are = h.passed_are; held = inr (inl refl); failed = inr (inl refl); ends = h.ends }
-
-    -- members that were asked for their cases
-    passed_by : (o : Bool) (p : ℕ) → passed.held ≡ held_of o p → passed.failed ≡ held_of (not o) p → AreCounted has (take p us) (held_of o p) (held_of (not o) p) → p ≤ cond o spare.held spare.failed → ArePassed has spare us passed × (passed.held + passed.failed ≡ p)
-    passed_by true p eh ef h few =
-        let sum : passed.held + passed.failed ≡ p = omega (arith, eh, ef) in
-        (record { counted = rw (sum, eh, ef) h; held = omega (arith, eh, few); failed = omega (arith, ef) }, sum)
-    passed_by false p eh ef h few =
-        let sum : passed.held + passed.failed ≡ p = omega (arith, eh, ef) in
-        (record { counted = rw (sum, eh, ef) h; held = omega (arith, eh); failed = omega (arith, ef, few) }, sum)
-
-    unsought_by : (asked : Option Bool) (o : Bool) (p : ℕ) → o ≡ is_other asked true → passed.held ≡ held_of o p → passed.failed ≡ held_of (not o) p → (asked ≡ None → p ≡ 0) → ((passed.held ≡ 0) ⊎ IsUnsought true (Some asked)) × ((passed.failed ≡ 0) ⊎ IsUnsought false (Some asked))
-    unsought_by None true p e eh ef none = absurd (cc)
-    unsought_by None false p e eh ef none = let z = none refl in (inl (omega (arith, eh)), inl (omega (arith, ef, z)))
-    unsought_by (Some true) true p e eh ef none = absurd (cc)
-    unsought_by (Some true) false p e eh ef none = (inl (omega (arith, eh)), inr (inr refl))
-    unsought_by (Some false) true p e eh ef none = (inr (inr refl), inl (omega (arith, ef)))
-    unsought_by (Some false) false p e eh ef none = absurd (cc)
-
-    module _ (asked : Option Bool) (o : Bool) (p : ℕ) (other : o ≡ is_other asked true) (held_is : passed.held ≡ held_of o p) (failed_is : passed.failed ≡ held_of (not o) p) (h : AreCounted has (take p us) (held_of o p) (held_of (not o) p)) (few : p ≤ cond o spare.held spare.failed) (none : asked ≡ None → p ≡ 0) where
-      pub next_shown : (t : Told) (u : U) → t.asked ≡ asked → p < length us → u ≡ get_or us p u → IsFoundBy q (has u) asked t.found → IsNext q has (Some asked) spare us passed (Some t)
-      next_shown t u as_asked before is found =
-          let x = passed_by o p held_is failed_is h few in
-          let w = unsought_by asked o p other held_is failed_is none in
-          let sum = x.1 in
-          record { passed_are = x.0; held = w.0; failed = w.1; ends = (as_asked, (u, omega (arith, before, sum), rw sum is, rw as_asked found)) }
-
-      pub next_all : length us ≤ p → IsNext q has (Some asked) spare us passed None
-      next_all all =
-          let x = passed_by o p held_is failed_is h few in
-          let w = unsought_by asked o p other held_is failed_is none in
-          let sum = x.1 in
-          record { passed_are = x.0; held = w.0; failed = w.1; ends = omega (arith, all, sum) }
-
   -- no member has the verdict that one decides
   pub none_decides : (expected : Bool) {text : Entry} {name : List ℕ} (us : List U) (spare passed : Verdicts) (k : ℕ) → k ≡ cond expected 1 (length us) → spare.held ≡ held_of (not expected) (length us) → spare.failed ≡ held_of (not (not expected)) (length us) → IsFront has spare us passed None → HasTruth (IsOfThreshold k text name has us) (not expected)
   none_decides true us spare passed k alone eh ef h =

@@ -286,18 +286,6 @@ none_pass false true true false false z' e p q = refl
 none_pass false true false z y' z' e p q = rw (p refl) refl
 
 module _ (b : Bool) (s : Sought) (text : Entry) (name : List ℕ) where
-  still_undecided : (such more spare grown : ℕ) → IsSpare b s such spare → more ≤ spare → grown ≤ such + more → (IsDecided b s such → ⊥) → IsDecided b s grown → ⊥
-  still_undecided such more spare grown few within most none d = ⊎_elim
-      (λ less. let l = few less in let e = d.enough in omega (arith, l, e, within, most))
-      (λ reached. none (record { enough = reached; other = d.other }))
-      (cases_lt such (enough_of b s.least s.number))
-
-  may_count : (such others more spare : ℕ) → IsSpare b s such spare → more ≤ spare → (IsDecided b s such → ⊥) → (more ≡ 0) ⊎ (asks_for b s such others ≡ false) → MayCount b s such others more
-  may_count such others more spare few within none unsought = record {
-    unsought = unsought;
-    barely = λ t. let l = few (few_such b s such none t) in omega (arith, l, within);
-  }
-
   -- the next is asked for a case of the truth as before
   still_same : (such others more further such' others' : ℕ) → enough_of (not b) s.least s.number < 2 ^ 64 → such' ≡ min (such + more) (2 ^ 64 - 1) → others' ≡ min (others + further) (2 ^ 64 - 1) → (more ≡ 0) ⊎ (asks_for b s such others ≡ false) → (others < enough_of (not b) s.least s.number → others + further < enough_of (not b) s.least s.number) → asks_for b s such' others' ≡ asks_for b s such others
   still_same such others more further such' others' fits es eo unsought few = ⊎_elim
@@ -328,23 +316,7 @@ module _ (text : Entry) (name : List ℕ) (t : Tally) (may : IsOpen t) (spare pa
   no_failed : (passed.failed ≡ 0) ⊎ (asks_for false t.sought t.failed.count t.held.count ≡ false)
   no_failed = ⊎_elim (λ none. inl none) (λ u. inr (unsought_for false _ _ asked asks_is u)) failed_unsought
 
-  pub may_held : MayCount true t.sought t.held.count t.failed.count passed.held
-  may_held = may_count true t.sought text name t.held.count t.failed.count passed.held spare.held spare_held few_held may.held no_held
-
-  pub may_failed : MayCount false t.sought t.failed.count t.held.count passed.failed
-  may_failed = may_count false t.sought text name t.failed.count t.held.count passed.failed spare.failed spare_failed few_failed may.failed no_failed
-
   module _ (new : Tally) (fits : t.sought.number < 2 ^ 64) (sought : new.sought ≡ t.sought) (absent : new.absent ≡ t.absent) (next : new.seen < t.sought.number) (held : new.held.count ≡ min (t.held.count + passed.held) (2 ^ 64 - 1)) (failed : new.failed.count ≡ min (t.failed.count + passed.failed) (2 ^ 64 - 1)) where
-    pub still_open : IsOpen new
-    still_open = record {
-      present = absent ∙ may.present;
-      next = subst (λ s. new.seen < s.number) (sym sought) next;
-      some = subst (λ s. 1 ≤ s.least) (sym sought) may.some;
-      within = subst (λ s. s.least ≤ s.number) (sym sought) may.within;
-      held = λ d. still_undecided true t.sought text name t.held.count passed.held spare.held new.held.count spare_held few_held (omega (arith, held)) may.held (subst (λ s. IsDecided true s new.held.count) sought d);
-      failed = λ d. still_undecided false t.sought text name t.failed.count passed.failed spare.failed new.failed.count spare_failed few_failed (omega (arith, failed)) may.failed (subst (λ s. IsDecided false s new.failed.count) sought d);
-    }
-
     pub still_asks : asked_by (asks_for true new.sought new.held.count new.failed.count) (asks_for false new.sought new.failed.count new.held.count) ≡ asked
     still_asks =
         let some = may.some in
