@@ -1,5 +1,5 @@
 -- A tally of members, each with formulas of its own.
-use Rattle.std.proofs.Common.{◌≡◌, ◌⊎◌, ℕ, zero, suc, ◌+◌, ◌-◌, ◌<◌, ◌≤◌, Bool, true, false, Option, List, [], ◌∷◌, ◌++◌, Some, None, length, length-append, take, drop, get_or, refl, sym, ap, ◌∙◌, subst, arith, inl, inr, ⊎_elim}
+use Rattle.std.proofs.Common.{◌≡◌, ℕ, zero, suc, ◌+◌, ◌-◌, ◌<◌, ◌≤◌, Bool, true, false, Option, List, [], ◌∷◌, ◌++◌, Some, None, length, length-append, take, drop, get_or, refl, sym, ap, ◌∙◌, subst, arith, inl, inr, ⊎_elim}
 use Rattle.std.proofs.lemmas.Bool.Decides.{nat_tests}
 use Rattle.std.specs.Prelude.{not, cond, Result, Ok, Err, IfOk}
 use mathlib.Core.Bool.{beq}
@@ -11,7 +11,7 @@ use Rattle.predicates_core.specs.Label.{Entry, plain}
 use Rattle.predicates_core.specs.Leaves.{IsExactly}
 use Rattle.predicates_core.specs.Several.{formulas_of}
 use Rattle.predicates_core.specs.Shows.{IsFoundBy}
-use Rattle.predicates_core.specs.Tally.{kind_of, held_of, IsUnsought, MayCount, IsDone, IsTally, Takes, Counts, Answers, AreOf, IsTallyOf, AreCounted, IsAt, ArePassed, EndsFront, IsFront, IsNext, count_like}
+use Rattle.predicates_core.specs.Tally.{kind_of, held_of, MayCount, IsDone, IsTally, Takes, Counts, Answers, AreOf, IsTallyOf, AreCounted, IsAt, ArePassed, IsFront, count_like}
 use Rattle.predicates_core.specs.Asked.{is_other}
 use Rattle.predicates_core.specs.Thresholds.{IsSettled, settled, IsOfThreshold}
 use Rattle.predicates_core.specs.declared.custom.tally.Sought.{Sought}

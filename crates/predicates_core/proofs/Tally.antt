@@ -4,9 +4,8 @@ use Rattle.std.specs.Prelude.{not, ◌&&◌, ◌||◌, nat_lt, cond, min, ◌-�
 use Rattle.std.proofs.lemmas.Bool.{cases_lt}
 use Rattle.std.proofs.lemmas.Bool.Decides.{nat_tests}
 use Rattle.std.proofs.lemmas.List.{map-append}
-use mathlib.Core.Bool.{beq}
 use Rattle.predicates_core.specs.Label.{Entry}
-use Rattle.predicates_core.specs.Formula.{Formula, enough_of, truth, one_if}
+use Rattle.predicates_core.specs.Formula.{Formula, enough_of, truth}
 use Rattle.predicates_core.specs.Tree.{Tree, forest, add_last}
 use Rattle.predicates_core.specs.Describe.{CaseNode}
 use Rattle.predicates_core.specs.Kinds.{Kind}

@@ -1,4 +1,4 @@
-use Rattle.std.proofs.Common.{arith, refl, sym, subst, ap, ◌∙◌, take, length, ◌+◌, ◌≡◌}
+use Rattle.std.proofs.Common.{arith, sym, subst, ap, ◌∙◌, take, length, ◌+◌, ◌≡◌}
 use Rattle.predicates_core.specs.Tally.{IsTallyOf, IsFront}
 use Rattle.predicates_core.proofs.Tallies.{front_may, none_decides, tally_none, tally_counted}
 use Rattle.predicates_core.proofs.custom.threshold.alone_case.Goals as goal
