@@ -1,12 +1,11 @@
 -- A tally of parts: of one part more, and what is found of the whole.
 use Rattle.std.proofs.Common.{◌≡◌, ◌⊎◌, ℕ, suc, ◌+◌, ◌<◌, ◌≤◌, ◌^◌, Bool, true, false, Option, List, [], ◌∷◌, ◌++◌, Some, None, length-append, map, length, refl, sym, ap, ◌∙◌, subst, arith, inl, inr, ⊎_elim}
-use Rattle.std.specs.Prelude.{not, ◌&&◌, ◌||◌, nat_lt, cond, option_map}
+use Rattle.std.specs.Prelude.{not, ◌&&◌, ◌||◌, nat_lt, cond, min, ◌-◌, option_map}
 use Rattle.std.proofs.lemmas.Bool.{cases_lt}
 use Rattle.std.proofs.lemmas.Bool.Decides.{nat_tests}
 use Rattle.std.proofs.lemmas.List.{map-append}
-use mathlib.Core.Bool.{beq}
 use Rattle.predicates_core.specs.Label.{Entry}
-use Rattle.predicates_core.specs.Formula.{Formula, enough_of, truth, one_if}
+use Rattle.predicates_core.specs.Formula.{Formula, enough_of, truth}
 use Rattle.predicates_core.specs.Tree.{Tree, forest, add_last}
 use Rattle.predicates_core.specs.Describe.{CaseNode}
 use Rattle.predicates_core.specs.Kinds.{Kind}
@@ -14,10 +13,11 @@ use Rattle.predicates_core.specs.Shows.{numbered, tells_numbers, ExplainsBy, IsF
 use Rattle.predicates_core.specs.Leaves.{IsExactly}
 use Rattle.predicates_core.specs.Asked.{shown_verdict, is_other}
 use Rattle.predicates_core.specs.Several.{is_absent}
-use Rattle.predicates_core.specs.Tally.{kind_of, asks_for, asked_by, IsAsked, IsDecided, IsOpen, count_like, AreShown, IsOver, IsNextCase, IsNodeWith, IsKept, Takes}
+use Rattle.predicates_core.specs.Tally.{kind_of, asks_for, asked_by, IsAsked, IsUnsought, IsDecided, IsOpen, IsSpare, MayCount, count_like, AreShown, IsOver, IsNextCase, IsNodeWith, IsKept, Takes, Counts}
 use Rattle.predicates_core.specs.declared.custom.tally.Kept.{Kept}
 use Rattle.predicates_core.specs.declared.custom.tally.Sought.{Sought}
 use Rattle.predicates_core.specs.declared.custom.tally.Tally.{Tally}
+use Rattle.predicates_core.specs.declared.custom.tally.Verdicts.{Verdicts}
 use Rattle.predicates_core.proofs.Thresholds.{either, one_like, none_like}
 use Rattle.predicates_core.proofs.Values.{not-not}
 use Rattle.predicates_core.proofs.Found.{Found, truth_found, case_found}
@@ -62,15 +62,15 @@ told_if false false false asked (Some c) e some v = absurd (cc)
 
 -- ---- how many formulas have a truth
 
-count_more : (b : Bool) (fs : List Formula) (f : Formula) → count_like b (fs ++ f ∷ []) ≡ count_like b fs + one_if (beq (truth f) b)
-count_more b [] f = omega arith
-count_more b (g ∷ fs) f = let ih = count_more b fs f in omega (arith, ih)
+pub count_joined : (b : Bool) (fs gs : List Formula) → count_like b (fs ++ gs) ≡ count_like b fs + count_like b gs
+count_joined b [] gs = omega arith
+count_joined b (f ∷ fs) gs = let ih = count_joined b fs gs in omega (arith, ih)
 
 count_with : (b : Bool) (fs : List Formula) (f : Formula) → truth f ≡ b → count_like b (fs ++ f ∷ []) ≡ suc (count_like b fs)
-count_with b fs f is = let e = count_more b fs f in let o = one_like (truth f) b is in omega (arith, e, o)
+count_with b fs f is = let e = count_joined b fs (f ∷ []) in let o = one_like (truth f) b is in omega (arith, e, o)
 
 count_without : (b : Bool) (fs : List Formula) (f : Formula) → truth f ≡ not b → count_like b (fs ++ f ∷ []) ≡ count_like b fs
-count_without b fs f is = let e = count_more b fs f in let o = none_like (truth f) b is in omega (arith, e, o)
+count_without b fs f is = let e = count_joined b fs (f ∷ []) in let o = none_like (truth f) b is in omega (arith, e, o)
 
 pub count_both : (b : Bool) (fs : List Formula) → count_like b fs + count_like (not b) fs ≡ length fs
 count_both b [] = refl
@@ -144,23 +144,36 @@ module _ (b : Bool) (s : Sought) (text : Entry) (name : List ℕ) where
   abbrev room : ℕ
   room = enough_of (not b) s.least s.number
 
-  -- a part with the other truth
-  pub kept_passed : (fs : List Formula) (f : Formula) (kept : Kept) (others fresh : ℕ) → IsKept b s text name fs kept others → truth f ≡ not b → fresh ≡ suc others → IsKept b s text name (fs ++ f ∷ []) kept fresh
-  kept_passed fs f kept others fresh h is grown = record {
-    cases = h.cases;
-    over = h.over;
-    shown = shown_more (kind_of s.turns) _ b 0 fs (f ∷ []) h.cases h.shown;
-    counted = h.counted ∙ sym (count_without b fs f is);
-    barely = h.barely;
-    all = λ w few. h.all w (omega (arith, few, grown));
-  }
-
   not_asked : (such others : ℕ) → asks_for b s such others ≡ false → is_other s.wanted b ≡ false → others < room → (s.turns ≡ true) × (room ≤ such)
   not_asked such others e w few =
       let less : nat_lt others room ≡ true = grind (arith, nat_tests) in
       let x = none_passes (is_other s.wanted b) s.turns (nat_lt such room) (nat_lt others room) e w less in
       let enough : nat_lt such room ≡ false = x.1 in
       (x.0, grind (arith, nat_tests))
+
+  -- parts of which no case is sought
+  kept_counted : (fs gs : List Formula) (old new : Kept) (others fresh : ℕ) → IsKept b s text name fs old others → MayCount b s old.count others (count_like b gs) → new.node ≡ old.node → new.count ≡ old.count + count_like b gs → others ≤ fresh → IsKept b s text name (fs ++ gs) new fresh
+  kept_counted fs gs old new others fresh h may node count grown = record {
+    cases = h.cases;
+    over = subst (IsOver b text name h.cases) (sym node) h.over;
+    shown = shown_more (kind_of s.turns) _ b 0 fs gs h.cases h.shown;
+    counted = let c = h.counted in let j = count_joined b fs gs in omega (arith, c, j, count);
+    barely = λ t. let m = may.barely t in omega (arith, m, count);
+    all = λ w few.
+        let known = h.all w (omega (arith, few, grown)) in
+        ⊎_elim
+        (λ none. ⊎_elim (λ same. inl (omega (arith, same, count, none))) (λ plenty. inr plenty) known)
+        (λ unsought.
+        let x = not_asked old.count others unsought w (omega (arith, few, grown)) in
+        inr (x.0, ⊎_elim (λ same. let full = x.1 in omega (arith, same, full)) (λ plenty. plenty.1) known))
+        may.unsought;
+  }
+
+  -- a part with the other truth
+  pub kept_passed : (fs : List Formula) (f : Formula) (kept : Kept) (others fresh : ℕ) → IsKept b s text name fs kept others → truth f ≡ not b → fresh ≡ suc others → IsKept b s text name (fs ++ f ∷ []) kept fresh
+  kept_passed fs f kept others fresh h is grown =
+      let none = none_like (truth f) b is in
+      kept_counted fs (f ∷ []) kept kept others fresh h (record { unsought = inl (omega (arith, none)); barely = λ t. let m = h.barely t in omega (arith, m, none) }) refl (omega (arith, none)) (omega (arith, grown))
 
   so_asked : (such others : ℕ) → asks_for b s such others ≡ true → (is_other s.wanted b ≡ false) × (s.turns ≡ true → (such < room) × (others < room))
   so_asked such others e =
@@ -181,16 +194,9 @@ module _ (b : Bool) (s : Sought) (text : Entry) (name : List ℕ) where
       more : (found : Found) (asks : Bool) → asks_for b s old.count others ≡ asks → IsToldIf asks found → IsNodeWith b text name old.node (option_map (numbered (tells_numbers (kind_of s.turns) b s.least s.number) index) found) new.node → ((c : Tree CaseNode) → found ≡ Some c → ExplainsBy (kind_of s.turns) f c) → IsKept b s text name (fs ++ f ∷ []) new others
       more None true e told node of_case = absurd told
       more (Some c) false e told node of_case = absurd told
-      more None false e told node of_case = record {
-        cases = h.cases;
-        over = subst (IsOver b text name h.cases) (sym node) h.over;
-        shown = shown_more (kind_of s.turns) _ b 0 fs (f ∷ []) h.cases h.shown;
-        counted = counts;
-        barely = few;
-        all = λ w less.
-            let x = not_asked old.count others e w less in
-            inr (x.0, ⊎_elim (λ same. let full = x.1 in omega (arith, same, full)) (λ plenty. plenty.1) (h.all w less));
-      }
+      more None false e told node of_case =
+          let one = one_like (truth f) b is in
+          kept_counted fs (f ∷ []) old new others others h (record { unsought = inr e; barely = λ t. let m = few t in omega (arith, m, count, one) }) node (omega (arith, count, one)) (omega arith)
       more (Some c) true e told node of_case =
           let tells = tells_numbers (kind_of s.turns) b s.least s.number in
           let d : Tree CaseNode = numbered tells index c in
@@ -241,3 +247,79 @@ module _ (text : Entry) (name : List ℕ) (t : Tally) (may : IsOpen t) (asked : 
         held = kept_passed true t.sought text name fs f t.held t.failed.count failed.count h.held is grown;
         failed = kept_more false t.sought text name fs f t.seen t.failed failed t.held.count found h.failed is h.seen (case_of fs f x) (told_if false _ _ asked found as_asked told v) may.failed may.held grown node;
       }
+
+-- ---- parts that told no case
+
+pub counts_more : (text : Entry) (name : List ℕ) (t : Tally) (held failed : Kept) (seen h f : ℕ) → MayCount true t.sought t.held.count t.failed.count h → MayCount false t.sought t.failed.count t.held.count f → seen ≡ t.seen + (h + f) → seen < 2 ^ 64
+    → held.node ≡ t.held.node → failed.node ≡ t.failed.node → (t.held.count + h < 2 ^ 64 → held.count ≡ t.held.count + h) → (t.failed.count + f < 2 ^ 64 → failed.count ≡ t.failed.count + f) → Counts text name h f t (record t { seen = seen; held = held; failed = failed })
+counts_more text name t held failed seen h f may_held may_failed next fits held_node failed_node held_is failed_is = λ fs gs k eh ef.
+    let all : count_like true fs + count_like false fs ≡ length fs = count_both true fs in
+    let more : count_like true gs + count_like false gs ≡ length gs = count_both true gs in
+    let c = k.held.counted in
+    let d = k.failed.counted in
+    let l = k.seen in
+    let held_grown = held_is (omega (arith, all, c, l, next, fits)) in
+    let failed_grown = failed_is (omega (arith, all, d, l, next, fits)) in
+    record {
+      present = k.present;
+      seen = let m = length-append fs gs in omega (arith, m, more, l, next, eh, ef);
+      held = kept_counted true t.sought text name fs gs t.held held t.failed.count failed.count k.held (subst (MayCount true t.sought t.held.count t.failed.count) (sym eh) may_held) held_node (omega (arith, held_grown, eh)) (omega (arith, failed_grown));
+      failed = kept_counted false t.sought text name fs gs t.failed failed t.held.count held.count k.failed (subst (MayCount false t.sought t.failed.count t.held.count) (sym ef) may_failed) failed_node (omega (arith, failed_grown, ef)) (omega (arith, held_grown));
+    }
+
+-- ---- what the next part is asked behind parts that told no case
+
+some_pass : (x t y z y' z' : Bool) → (not x && (not t || (y && z))) ≡ true → (y ≡ true → y' ≡ true) → (z ≡ true → z' ≡ true) → (not x && (not t || (y' && z'))) ≡ true
+some_pass true t y z y' z' e p q = absurd (cc)
+some_pass false false y z y' z' e p q = refl
+some_pass false true true true y' z' e p q = rw (p refl, q refl) refl
+some_pass false true true false y' z' e p q = absurd (cc)
+some_pass false true false z y' z' e p q = absurd (cc)
+
+none_pass : (x t y z y' z' : Bool) → (not x && (not t || (y && z))) ≡ false → (y ≡ false → y' ≡ false) → (z ≡ false → z' ≡ false) → (not x && (not t || (y' && z'))) ≡ false
+none_pass true t y z y' z' e p q = refl
+none_pass false false y z y' z' e p q = absurd (cc)
+none_pass false true true true y' z' e p q = absurd (cc)
+none_pass false true true false true z' e p q = q refl
+none_pass false true true false false z' e p q = refl
+none_pass false true false z y' z' e p q = rw (p refl) refl
+
+module _ (b : Bool) (s : Sought) (text : Entry) (name : List ℕ) where
+  -- the next is asked for a case of the truth as before
+  still_same : (such others more further such' others' : ℕ) → enough_of (not b) s.least s.number < 2 ^ 64 → such' ≡ min (such + more) (2 ^ 64 - 1) → others' ≡ min (others + further) (2 ^ 64 - 1) → (more ≡ 0) ⊎ (asks_for b s such others ≡ false) → (others < enough_of (not b) s.least s.number → others + further < enough_of (not b) s.least s.number) → asks_for b s such' others' ≡ asks_for b s such others
+  still_same such others more further such' others' fits es eo unsought few = ⊎_elim
+      (λ yes. some_pass (is_other s.wanted b) s.turns (nat_lt such room') (nat_lt others room') (nat_lt such' room') (nat_lt others' room') yes
+      (λ l. let less : such < room' = grind (arith, nat_tests) in let none : more ≡ 0 = ⊎_elim (λ n. n) (λ e. absurd (cc)) unsought in let still : such' < room' = omega (arith, less, none, es) in grind (arith, nat_tests))
+      (λ l. let less : others < room' = grind (arith, nat_tests) in let still : others' < room' = let m = few less in omega (arith, m, eo) in grind (arith, nat_tests)) ∙ sym yes)
+      (λ no. none_pass (is_other s.wanted b) s.turns (nat_lt such room') (nat_lt others room') (nat_lt such' room') (nat_lt others' room') no
+      (λ l. let full : room' ≤ such = grind (arith, nat_tests) in let still : room' ≤ such' = omega (arith, full, fits, es) in grind (arith, nat_tests))
+      (λ l. let full : room' ≤ others = grind (arith, nat_tests) in let still : room' ≤ others' = omega (arith, full, fits, eo) in grind (arith, nat_tests)) ∙ sym no)
+      (either_way (asks_for b s such others))
+    where
+      room' : ℕ
+      room' = enough_of (not b) s.least s.number
+
+unsought_for : (b x y : Bool) (a : Option (Option Bool)) → asked_by x y ≡ a → IsUnsought b a → cond b x y ≡ false
+unsought_for true true true a e u = absurd (⊎_elim (λ n. cc) (λ o. cc) u)
+unsought_for true true false a e u = absurd (⊎_elim (λ n. cc) (λ o. cc) u)
+unsought_for true false y a e u = refl
+unsought_for false true true a e u = absurd (⊎_elim (λ n. cc) (λ o. cc) u)
+unsought_for false false true a e u = absurd (⊎_elim (λ n. cc) (λ o. cc) u)
+unsought_for false x false a e u = refl
+
+-- a tally, and the same with so many more parts
+module _ (text : Entry) (name : List ℕ) (t : Tally) (may : IsOpen t) (spare passed : Verdicts) (spare_held : IsSpare true t.sought t.held.count spare.held) (spare_failed : IsSpare false t.sought t.failed.count spare.failed) (few_held : passed.held ≤ spare.held) (few_failed : passed.failed ≤ spare.failed) (asked : Option (Option Bool)) (asks_is : asked_by (asks_for true t.sought t.held.count t.failed.count) (asks_for false t.sought t.failed.count t.held.count) ≡ asked) (held_unsought : (passed.held ≡ 0) ⊎ IsUnsought true asked) (failed_unsought : (passed.failed ≡ 0) ⊎ IsUnsought false asked) where
+  no_held : (passed.held ≡ 0) ⊎ (asks_for true t.sought t.held.count t.failed.count ≡ false)
+  no_held = ⊎_elim (λ none. inl none) (λ u. inr (unsought_for true _ _ asked asks_is u)) held_unsought
+
+  no_failed : (passed.failed ≡ 0) ⊎ (asks_for false t.sought t.failed.count t.held.count ≡ false)
+  no_failed = ⊎_elim (λ none. inl none) (λ u. inr (unsought_for false _ _ asked asks_is u)) failed_unsought
+
+  module _ (new : Tally) (fits : t.sought.number < 2 ^ 64) (sought : new.sought ≡ t.sought) (absent : new.absent ≡ t.absent) (next : new.seen < t.sought.number) (held : new.held.count ≡ min (t.held.count + passed.held) (2 ^ 64 - 1)) (failed : new.failed.count ≡ min (t.failed.count + passed.failed) (2 ^ 64 - 1)) where
+    pub still_asks : asked_by (asks_for true new.sought new.held.count new.failed.count) (asks_for false new.sought new.failed.count new.held.count) ≡ asked
+    still_asks =
+        let some = may.some in
+        let within = may.within in
+        let x = still_same true t.sought text name t.held.count t.failed.count passed.held passed.failed new.held.count new.failed.count (omega (arith, some, within, fits)) held failed no_held (λ less. let l = spare_failed less in omega (arith, l, few_failed)) in
+        let y = still_same false t.sought text name t.failed.count t.held.count passed.failed passed.held new.failed.count new.held.count (omega (arith, some, within, fits)) failed held no_failed (λ less. let l = spare_held less in omega (arith, l, few_held)) in
+        ap (λ s. asked_by (asks_for true s new.held.count new.failed.count) (asks_for false s new.failed.count new.held.count)) sought ∙ (λ i. asked_by (x i) (y i)) ∙ asks_is

@@ -104,7 +104,7 @@ module _ (s : Sought) (text : Entry) (name : List ℕ) (g : Formula) (gs : List 
   like_is : (b : Bool) → like b (under name g gs) (actual_of_parts (under name g gs)) ≡ count_like b (g ∷ gs)
   like_is b = sym (many_like b (under name g gs)) ∙ many-under b name g gs
 
-  truth_of_whole : (b : Bool) → enough_of b s.least s.number ≤ count_like b (g ∷ gs) → truth whole ≡ b
+  pub truth_of_whole : (b : Bool) → enough_of b s.least s.number ≤ count_like b (g ∷ gs) → truth whole ≡ b
   truth_of_whole b enough = truth_by_parts b s.least (plain text) (under name g gs) (let d = decisive_is b in let l = like_is b in omega (arith, enough, d, l))
 
   quota_is : (q : Kind) (b : Bool) → shown_by q (count_like b (g ∷ gs)) (enough_of b s.least s.number) ≡ quota q b s.least (under name g gs)
@@ -153,7 +153,7 @@ module _ (s : Sought) (text : Entry) (name : List ℕ) (some : 1 ≤ s.least) (w
     explains = λ f p. subst (λ z. ExplainsBy q z t) (sym (whole_is s.least text name g gs f some (omega (arith, within, e)) p)) (explained s text name g gs e some within q b m cs t (truth_of_whole s text name g gs e some within b enough) is few shown node);
   }
 
-count_front : (b : Bool) (fs gs : List Formula) → count_like b fs ≤ count_like b (fs ++ gs)
+pub count_front : (b : Bool) (fs gs : List Formula) → count_like b fs ≤ count_like b (fs ++ gs)
 count_front b [] gs = omega arith
 count_front b (f ∷ fs) gs = let ih = count_front b fs gs in omega (arith, ih)
 

@@ -1,10 +1,10 @@
 -- The truth of a threshold over several members, its printed text, and that there is one formula.
-use Rattle.std.proofs.Common.{◌≡◌, ◌⊎◌, ℕ, zero, suc, ◌+◌, ◌<◌, ◌≤◌, Bool, true, false, List, [], ◌∷◌, ◌++◌, length, take, drop, get_or, refl, sym, ap, ◌∙◌, subst, arith, inl, inr, ⊎_elim}
+use Rattle.std.proofs.Common.{◌≡◌, ◌⊎◌, ℕ, zero, suc, ◌≤◌, Bool, true, false, List, [], ◌∷◌, ◌++◌, length, take, drop, refl, sym, ap, ◌∙◌, subst, arith, inl, inr, ⊎_elim}
 use Rattle.std.specs.List.{AllByRecursion}
 use Rattle.std.specs.Prelude.{◌&&◌, nat_le, Result, Ok, Err, IfOk}
 use Rattle.std.proofs.lemmas.Bool.{cases_lt}
 use Rattle.std.proofs.lemmas.Bool.Decides.{nat_tests}
-use Rattle.std.proofs.lemmas.List.{take-append-drop, take_more}
+use Rattle.std.proofs.lemmas.List.{take-append-drop}
 use Rattle.predicates_core.specs.Label.{Entry, plain, FitsEntry}
 use Rattle.predicates_core.specs.Formula.{Formula, Formulas, one, more, AtLeast, number_of_parts, enough_of, actual_of_parts, truth, text_of, HasTruth}
 use Rattle.predicates_core.specs.Several.{AreOfEach, formulas_of}
@@ -35,23 +35,10 @@ module _ (b : Bool) {U : Type 0} (has : U → Formula → Type 0) where
   Among [] (suc m) = ⊥
   Among (u ∷ us) (suc m) = (HasTruth (has u) b × Among us m) ⊎ Among us (suc m)
 
-  among_last : (us : List U) (m : ℕ) (u : U) → Among us m → HasTruth (has u) b → Among (us ++ u ∷ []) (suc m)
-  among_last [] zero u a h = inl (h, tt)
-  among_last [] (suc m) u a h = absurd a
-  among_last (v ∷ us) zero u a h = inr (among_last us zero u tt h)
-  among_last (v ∷ us) (suc m) u a h = ⊎_elim (λ x. inl (x.0, among_last us m u x.1 h)) (λ y. inr (among_last us (suc m) u y h)) a
-
   among_first : (us vs : List U) (m : ℕ) → Among us m → Among (us ++ vs) m
   among_first us vs zero a = tt
   among_first [] vs (suc m) a = absurd a
   among_first (u ∷ us) vs (suc m) a = ⊎_elim (λ x. inl (x.0, among_first us vs m x.1)) (λ y. inr (among_first us vs (suc m) y)) a
-
-  -- of one member more
-  pub among_with : (us : List U) (k m : ℕ) (u : U) → k < length us → u ≡ get_or us k u → Among (take k us) m → HasTruth (has u) b → Among (take (k + 1) us) (suc m)
-  among_with us k m u within is a h = subst (λ z. Among z (suc m)) (ap (λ z. take k us ++ z ∷ []) is ∙ sym (take_more us k u within)) (among_last (take k us) m u a h)
-
-  pub among_without : (us : List U) (k m : ℕ) (u : U) → k < length us → u ≡ get_or us k u → Among (take k us) m → Among (take (k + 1) us) m
-  among_without us k m u within is a = subst (λ z. Among z m) (ap (λ z. take k us ++ z ∷ []) is ∙ sym (take_more us k u within)) (among_first (take k us) (u ∷ []) m a)
 
   pub among_all : (us : List U) (k m : ℕ) → Among (take k us) m → Among us m
   among_all us k m a = subst (λ z. Among z m) (take-append-drop k us) (among_first (take k us) (drop k us) m a)
@@ -95,22 +82,6 @@ module _ (b : Bool) {U : Type 0} (has : U → Formula → Type 0) where
 
   pub HasTruth-settled : {text : Entry} {name : List ℕ} {us : List U} (k : ℕ) → IsSettled k (length us) → nat_le k (length us) ≡ b → HasTruth (IsOfThreshold k text name has us) b
   HasTruth-settled k s e = record { at = λ f p. (HasTruth-exactly e).at f (p.of_settled s) }
-
--- ---- how many members hold and how many fail, of one member more
-
-module _ {U : Type 0} (has : U → Formula → Type 0) where
-  pub tally_held : (us : List U) (k : ℕ) (u : U) (t f t' f' : ℕ) → k < length us → u ≡ get_or us k u → Among true has (take k us) t → Among false has (take k us) f → HasTruth (has u) true → t' ≡ suc t → f' ≡ f → Among true has (take (k + 1) us) t' × Among false has (take (k + 1) us) f'
-  tally_held us k u t f t' f' within is a c h et ef =
-      (subst (λ z. Among true has (take (k + 1) us) z) (sym et) (among_with true has us k t u within is a h), subst (λ z. Among false has (take (k + 1) us) z) (sym ef) (among_without false has us k f u within is c))
-
-  pub tally_failed : (us : List U) (k : ℕ) (u : U) (t f t' f' : ℕ) → k < length us → u ≡ get_or us k u → Among true has (take k us) t → Among false has (take k us) f → HasTruth (has u) false → t' ≡ t → f' ≡ suc f → Among true has (take (k + 1) us) t' × Among false has (take (k + 1) us) f'
-  tally_failed us k u t f t' f' within is a c h et ef =
-      (subst (λ z. Among true has (take (k + 1) us) z) (sym et) (among_without true has us k t u within is a), subst (λ z. Among false has (take (k + 1) us) z) (sym ef) (among_with false has us k f u within is c h))
-
-  -- the next member decides
-  pub decided_next : (b : Bool) {text : Entry} {name : List ℕ} (us : List U) (j m : ℕ) (u : U) (k : ℕ) → 1 ≤ k → k ≤ length us → j < length us → u ≡ get_or us j u → Among b has (take j us) m → HasTruth (has u) b → suc m ≡ enough_of b k (length us) → HasTruth (IsOfThreshold k text name has us) b
-  decided_next b us j m u k some within before is a h e =
-      HasTruth-among b has k some within (subst (λ z. Among b has us z) e (among_all b has us (j + 1) (suc m) (among_with b has us j m u before is a h)))
 
 -- ---- the printed text, and that there is one formula
 

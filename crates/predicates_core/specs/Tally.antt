@@ -1,10 +1,11 @@
 -- What a tally says of the formulas of the parts that were seen so far.
 use Rattle.std.specs.Prelude.{◌≡◌, ◌⊎◌, ℕ, suc, ◌+◌, ◌<◌, ◌≤◌, nat_lt, Bool, true, false, not}
-use Rattle.std.specs.Prelude.{◌&&◌, ◌||◌, List, [], ◌∷◌, ◌++◌, map, length, Option, Some, None}
+use Rattle.std.specs.Prelude.{◌&&◌, ◌||◌, List, [], ◌∷◌, ◌++◌, map, length, take, get_or, Option}
+use Rattle.std.specs.Prelude.{Some, None, MatchOption}
 use mathlib.Core.Bool.{beq}
 use Rattle.predicates_core.specs.Asked.{is_other}
 use Rattle.predicates_core.specs.Describe.{CaseNode, with_child}
-use Rattle.predicates_core.specs.Formula.{Formula, enough_of, one_if, truth}
+use Rattle.predicates_core.specs.Formula.{Formula, enough_of, one_if, truth, HasTruth}
 use Rattle.predicates_core.specs.Kinds.{Kind, reasons, changes}
 use Rattle.predicates_core.specs.Label.{Entry}
 use Rattle.predicates_core.specs.Leaves.{IsExactly}
@@ -14,6 +15,8 @@ use Rattle.predicates_core.specs.Tree.{Tree}
 use Rattle.predicates_core.specs.declared.custom.tally.Kept.{Kept}
 use Rattle.predicates_core.specs.declared.custom.tally.Sought.{Sought}
 use Rattle.predicates_core.specs.declared.custom.tally.Tally.{Tally}
+use Rattle.predicates_core.specs.declared.custom.tally.Told.{Told}
+use Rattle.predicates_core.specs.declared.custom.tally.Verdicts.{Verdicts}
 
 -- what a case shows: what turns a truth, or what it comes from
 abbrev pub kind_of : Bool → Kind
@@ -124,12 +127,39 @@ pub record IsTally (text : Entry) (name : List ℕ) (fs : List Formula) (t : Tal
   pub held : IsKept true t.sought text name fs t.held t.failed.count
   pub failed : IsKept false t.sought text name fs t.failed t.held.count
 
--- ---- the three steps: a tally of none, of one part more, and the whole's answer
+-- ---- parts that told no case
+
+-- of so many parts with the truth how many hold
+abbrev pub held_of : Bool → ℕ → ℕ
+held_of true n = n
+held_of false n = 0
+
+-- so many more parts with the truth may be counted: no case of them is sought, and for a reason no
+-- more are counted than decide
+pub record MayCount (b : Bool) (s : Sought) (such others more : ℕ) : Type 0 where
+  pub unsought : (more ≡ 0) ⊎ (asks_for b s such others ≡ false)
+  pub barely : s.turns ≡ false → such + more ≤ enough_of b s.least s.number
+
+-- so many more parts with the truth are too few, where so many of them are too few
+abbrev pub IsSpare : Bool → Sought → ℕ → ℕ → Type 0
+IsSpare b s such more = such < enough_of b s.least s.number
+    → such + more < enough_of b s.least s.number
+
+-- where the part was asked so, no case of the truth is sought
+abbrev pub IsUnsought : Bool → Option (Option Bool) → Type 0
+IsUnsought b asks = (asks ≡ None) ⊎ (asks ≡ Some (Some (not b)))
+
+-- ---- the steps: a tally of none, of one part more, of parts without a case, and the whole's answer
 
 -- where a part with the formula f was asked, and this was found
 abbrev pub Takes : Entry → List ℕ → Option Bool → Option (Tree CaseNode) → Tally → Tally → Type 0
 Takes text name asked found old new = (fs : List Formula) (f : Formula) → IsTally text name fs old
     → IsFoundBy (kind_of old.sought.turns) (IsExactly f) asked found → IsTally text name (fs ++ f ∷ []) new
+
+-- the parts with the formulas gs told no case: so many hold and so many fail
+abbrev pub Counts : Entry → List ℕ → ℕ → ℕ → Tally → Tally → Type 0
+Counts text name held failed old new = (fs gs : List Formula) → IsTally text name fs old
+    → count_like true gs ≡ held → count_like false gs ≡ failed → IsTally text name (fs ++ gs) new
 
 -- this is found of the whole, whatever the formulas of further parts
 abbrev pub Answers : Entry → List ℕ → Tally → Option (Tree CaseNode) → Type 0
@@ -153,3 +183,46 @@ pub record IsTallyOf {U : Type 0} (sought : Sought) (text : Entry) (name : List 
   pub sought_is : t.sought ≡ sought
   pub seen : t.seen ≡ length us
   pub at : (fs : List Formula) → AreOf has us fs → IsTally text name fs t
+
+-- so many of the members hold and so many fail
+pub record AreCounted {U : Type 0} (has : U → Formula → Type 0) (us : List U) (held failed : ℕ)
+    : Type 0 where
+  pub number : held + failed ≡ length us
+  pub at : (fs : List Formula) → AreOf has us fs
+      → (count_like true fs ≡ held) × (count_like false fs ≡ failed)
+
+-- P of the member with the number
+abbrev pub IsAt : {U : Type 0} → List U → ℕ → (U → Type 0) → Type 0
+IsAt {U} us i P = (u : U) × (i < length us) × (u ≡ get_or us i u) × P u
+
+-- the first members are counted, of each truth at most as many as are spared
+pub record ArePassed {U : Type 0} (has : U → Formula → Type 0) (spare : Verdicts) (us : List U)
+    (passed : Verdicts) : Type 0 where
+  pub counted : AreCounted has (take (passed.held + passed.failed) us) passed.held passed.failed
+  pub held : passed.held ≤ spare.held
+  pub failed : passed.failed ≤ spare.failed
+
+-- behind them is none, or a member with the truth by which there are more of it than are spared
+abbrev pub EndsFront : {U : Type 0} → (U → Formula → Type 0) → Verdicts → List U → Verdicts
+    → Option Bool → Type 0
+EndsFront has spare us passed None = length us ≤ passed.held + passed.failed
+EndsFront has spare us passed (Some true) = (passed.held ≡ spare.held)
+    × IsAt us (passed.held + passed.failed) (λ u. HasTruth (has u) true)
+EndsFront has spare us passed (Some false) = (passed.failed ≡ spare.failed)
+    × IsAt us (passed.held + passed.failed) (λ u. HasTruth (has u) false)
+
+pub record IsFront {U : Type 0} (has : U → Formula → Type 0) (spare : Verdicts) (us : List U)
+    (passed : Verdicts) (next : Option Bool) : Type 0 where
+  pub passed_are : ArePassed has spare us passed
+  pub ends : EndsFront has spare us passed next
+
+-- behind them is none, or a member that was asked so and told this; of those before it no case is
+-- sought
+pub record IsNext {U : Type 0} (q : Kind) (has : U → Formula → Type 0)
+    (asks : Option (Option Bool)) (spare : Verdicts) (us : List U) (passed : Verdicts)
+    (told : Option Told) : Type 0 where
+  pub passed_are : ArePassed has spare us passed
+  pub held : (passed.held ≡ 0) ⊎ IsUnsought true asks
+  pub failed : (passed.failed ≡ 0) ⊎ IsUnsought false asks
+  pub ends : MatchOption told (length us ≤ passed.held + passed.failed) (λ t. IsAsked asks t.asked
+      t.found × IsAt us (passed.held + passed.failed) (λ u. IsFoundBy q (has u) t.asked t.found))

@@ -8,7 +8,7 @@ ghost use Rattle.predicates_core.specs.Shows.{IsAnswer, IsFound};
 ghost use Rattle.predicates_core.specs.Thresholds.{IsOfThreshold};
 
 use crate::custom::ask::{ByPredicate, Changes, Reasons};
-use crate::custom::threshold::{Asking, Counting, counted, counted_case, counted_hold};
+use crate::custom::threshold::{Counting, counted, counted_case, counted_hold};
 use crate::reflection::Case;
 use crate::{Predicate, PredicateChange};
 use std::alloc::{AllocError, Global};
@@ -65,7 +65,7 @@ pub fn members_explained<W: fmt::Display, P: Predicate<Item>, Item>(
         (W.output list.entry.whole.now) list.entry.name.now
         (P.formula part.now) members.now) wanted) }
 {
-    counted::<Reasons, W, ByPredicate, P, Item>(alloc, list, part, Asking::AtOnce, wanted, members)
+    counted::<Reasons, W, ByPredicate, P, Item>(alloc, list, part, wanted, members)
 }
 
 /// The `find_change` of such a predicate. Of the members with the whole's verdict, as many as turn
@@ -83,5 +83,5 @@ pub fn members_change<W: fmt::Display, P: PredicateChange<Item>, Item>(
         (W.output list.entry.whole.now) list.entry.name.now
         (P.formula part.now) members.now) wanted) }
 {
-    counted::<Changes, W, ByPredicate, P, Item>(alloc, list, part, Asking::AtOnce, wanted, members)
+    counted::<Changes, W, ByPredicate, P, Item>(alloc, list, part, wanted, members)
 }

@@ -10,7 +10,7 @@ ghost use Rattle.predicates_core.specs.Thresholds.{IsOfThreshold};
 ghost use Rattle.predicates_core.specs.Tree.{forest};
 
 use crate::custom::ask::{Changes, OfItem, Reasons};
-use crate::custom::threshold::{Asking, Counting, counted, counted_case, counted_hold};
+use crate::custom::threshold::{Counting, counted, counted_case, counted_hold};
 use crate::reflection::{Case, Child, PredicateReflection, describe};
 use crate::{Predicate, PredicateChange};
 use std::alloc::{AllocError, Global};
@@ -67,7 +67,7 @@ pub fn parts_explained<W: fmt::Display, P: Predicate<Item>, Item>(
         (W.output list.entry.whole.now) list.entry.name.now
         (λ p. P.formula p item.now) parts.now) wanted) }
 {
-    counted::<Reasons, W, OfItem, Item, P>(alloc, list, item, Asking::AtOnce, wanted, parts)
+    counted::<Reasons, W, OfItem, Item, P>(alloc, list, item, wanted, parts)
 }
 
 /// The `find_change` of such a predicate. Of the parts with the whole's verdict, as many as turn it
@@ -85,7 +85,7 @@ pub fn parts_change<W: fmt::Display, P: PredicateChange<Item>, Item>(
         (W.output list.entry.whole.now) list.entry.name.now
         (λ p. P.formula p item.now) parts.now) wanted) }
 {
-    counted::<Changes, W, OfItem, Item, P>(alloc, list, item, Asking::AtOnce, wanted, parts)
+    counted::<Changes, W, OfItem, Item, P>(alloc, list, item, wanted, parts)
 }
 
 /// The descriptions of several parts under one name, for `children`.

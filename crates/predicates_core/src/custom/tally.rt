@@ -17,15 +17,15 @@
 //! tally.answer(alloc, list)
 //! ```
 ghost use Rattle.std.specs.Prelude.{◌≡◌, ◌<◌, ◌≤◌, ◌-◌, ◌+◌, ◌^◌, ℕ, List, [], suc, true, false};
-ghost use Rattle.std.specs.Prelude.{not, option_map, IfOk};
+ghost use Rattle.std.specs.Prelude.{cond, min, not, option_map, IfOk};
 ghost use Rattle.predicates_core.specs.Describe.{with_first_children};
 ghost use Rattle.predicates_core.specs.Formula.{enough_of};
 ghost use Rattle.predicates_core.specs.Label.{Entry};
 ghost use Rattle.predicates_core.specs.Leaves.{IsExactly};
 ghost use Rattle.predicates_core.specs.Shows.{IsFoundBy, numbered, tells_numbers};
 ghost use Rattle.predicates_core.specs.Tally.{Answers, IsAsked, IsDecided, IsDone, kind_of};
-ghost use Rattle.predicates_core.specs.Tally.{IsNextCase, IsNodeWith, IsOpen, IsTally, Takes};
-ghost use Rattle.predicates_core.specs.Tally.{asks, asks_for};
+ghost use Rattle.predicates_core.specs.Tally.{IsNextCase, IsNodeWith, IsOpen, IsSpare, IsTally};
+ghost use Rattle.predicates_core.specs.Tally.{Counts, MayCount, Takes, asks, asks_for, held_of};
 ghost use Rattle.predicates_core.specs.Thresholds.{IsSettled, settled};
 
 use crate::custom::threshold::{
@@ -72,6 +72,33 @@ impl Told {
     }
 }
 
+// How many parts hold and how many fail.
+#[derive(Clone, Copy)]
+pub(super) struct Verdicts {
+    pub(super) held: usize,
+    pub(super) failed: usize,
+}
+
+impl Verdicts {
+    // So many with the verdict, and none with the other.
+    pub(super) fn alike(verdict: bool, number: usize) -> Verdicts
+        ensures held { result.held ≡ held_of verdict number }
+        ensures failed { result.failed ≡ held_of (not verdict) number }
+    {
+        Verdicts {
+            held: if verdict { number } else { 0 },
+            failed: if verdict { 0 } else { number },
+        }
+    }
+
+    // How many have the verdict.
+    pub(super) fn with(self, verdict: bool) -> usize
+        ensures { result ≡ cond verdict self.held self.failed }
+    {
+        if verdict { self.held } else { self.failed }
+    }
+}
+
 // The parts with one verdict: how many they are, and the node over the cases of the first of them.
 #[derive(Drop)]
 struct Kept {
@@ -83,7 +110,7 @@ struct Kept {
 #[derive(Drop)]
 pub struct Tally {
     sought: Sought,
-    seen: usize,
+    pub(super) seen: usize,
     held: Kept,
     failed: Kept,
     absent: bool,
@@ -95,6 +122,8 @@ impl Tally {
     pub fn new(sought: Sought) -> Tally
         ensures sought { result.sought ≡ sought }
         ensures seen { result.seen ≡ 0 }
+        ensures held { result.held.count ≡ 0 }
+        ensures failed { result.failed.count ≡ 0 }
         ensures tally { (text : Entry) (name : List ℕ) → IsTally text name [] result }
     {
         Tally {
@@ -180,6 +209,43 @@ impl Tally {
         }
     }
 
+    // How many more parts with each verdict leave open what the whole's answer is, and what the next
+    // part is asked.
+    #[inline]
+    pub(super) fn spare(&self) -> Verdicts
+        requires { IsOpen self.now }
+        ensures held { IsSpare true self.now.sought self.now.held.count result.held }
+        ensures failed { IsSpare false self.now.sought self.now.failed.count result.failed }
+    {
+        Verdicts {
+            held: self.sought.spare(true, self.held.count),
+            failed: self.sought.spare(false, self.failed.count),
+        }
+    }
+
+    // Counts further parts of which no case is sought.
+    #[inline]
+    pub(super) fn count(&mut self, more: Verdicts)
+        requires fits { self.old.seen + (more.held + more.failed) < 2 ^ 64 }
+        requires held { MayCount true self.old.sought self.old.held.count self.old.failed.count
+            more.held }
+        requires failed { MayCount false self.old.sought self.old.failed.count self.old.held.count
+            more.failed }
+        ensures sought { self.new.sought ≡ self.old.sought }
+        ensures absent { self.new.absent ≡ self.old.absent }
+        ensures seen { self.new.seen ≡ self.old.seen + (more.held + more.failed) }
+        ensures held { self.new.held.count ≡ min (self.old.held.count + more.held) (2 ^ 64 - 1) }
+        ensures failed { self.new.failed.count
+            ≡ min (self.old.failed.count + more.failed) (2 ^ 64 - 1) }
+        ensures counts { (text : Entry) (name : List ℕ)
+            → Counts text name more.held more.failed self.old self.new }
+    {
+        // There are no more of either than parts, so that the sums fit.
+        self.seen += more.held + more.failed;
+        self.held.count = self.held.count.saturating_add(more.held);
+        self.failed.count = self.failed.count.saturating_add(more.failed);
+    }
+
     /// What is found of the whole. It takes memory only where no part is asked.
     pub fn answer<W: fmt::Display>(
         self,
@@ -248,6 +314,20 @@ impl Sought {
     {
         let room = enough_of(!verdict, self.least, self.number);
         !is_other(self.wanted, verdict) && (!self.turns || such < room && others < room)
+    }
+
+    // How many more parts with the verdict leave too few of them, where so many have it.
+    fn spare(self, verdict: bool, such: usize) -> usize
+        requires some { 1 ≤ self.least }
+        requires within { self.least ≤ self.number }
+        ensures { IsSpare verdict self such result }
+    {
+        let enough = enough_of(verdict, self.least, self.number);
+        if such < enough {
+            enough - such - 1
+        } else {
+            self.number
+        }
     }
 
     // Whether the cases of parts with the verdict tell their numbers.
