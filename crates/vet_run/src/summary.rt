@@ -215,7 +215,8 @@ impl Summary {
     ///
     /// ```
     /// let text = summary.to_json(alloc)?;
-    /// assert!(rt; Summary::read(alloc, text.as_bytes()).is_ok_and(|read| read.rules.len() == 2));
+    /// let read = Summary::read(alloc, text.as_bytes())?;
+    /// assert!(rt; read.rules.len() == 2);
     /// ```
     pub fn to_json(&self, alloc: Global) -> Result<String, AllocError>
         ensures { IfOk result (λ text. string_bytes text ≡ sum_json (sum_of self.now)) }
@@ -228,7 +229,8 @@ impl Summary {
     ///
     /// ```
     /// let text = br#"{"records":4,"failed":1,"unreadable":0,"rules":[]}"#;
-    /// assert!(rt; Summary::read(alloc, text).is_ok_and(|read| read.counts.failed == 1));
+    /// let read = Summary::read(alloc, text)?;
+    /// assert!(rt; read.counts.failed == 1);
     /// ```
     #[tactic(auto, using(crate::proofs::SumTexts::told_where_it_fits))]
     pub fn read(alloc: Global, text: &[u8]) -> Result<Summary, ReadSummaryError>
